@@ -1,0 +1,3 @@
+pub mod Tally
+pub mod Spelled
+pub mod Cases

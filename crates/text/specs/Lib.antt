@@ -1,0 +1,5 @@
+pub mod Cut
+pub mod Scan
+pub mod Readers
+pub mod Grammar
+pub mod Meaning
