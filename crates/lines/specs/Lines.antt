@@ -1,8 +1,9 @@
 -- The form of each line of a plan text, token by token.
-use mathlib.Core.Bool.{cond}
+use mathlib.Core.Bool.{Bool, false, cond}
+use mathlib.Core.List.{List}
 use Prim.Native.Nat.{ℕ}
 use lib.Chars.{codes}
-use lib.Dec.{ltb}
+use lib.Dec.{ltb, eqb}
 use Rattle.std.specs.declared.option.Option.{Option}
 use Rattle.std.specs.declared.option.Option.the-variants.{Some, None}
 use Rattle.std.specs.declared.result.Result.{Result}
@@ -11,8 +12,8 @@ use Rattle.model.specs.declared.Cause.{Cause}
 use Rattle.model.specs.declared.Cause.the-variants.{Count, Name}
 use Rattle.model.specs.declared.Refusal.{Refusal}
 use Rattle.model.specs.Plan.{counts}
-use Rattle.text.specs.Scan.{Scan, Taken, took, taken, then, one, close, place}
-use Rattle.text.specs.Readers.{natural, optional, the-number, the-letter, exactly}
+use Rattle.text.specs.Scan.{Scan, start, Taken, took, refused, taken, then, one, close, place}
+use Rattle.text.specs.Readers.{natural, letter, optional, the-number, the-letter, exactly}
 use Rattle.text.specs.Grammar.{take}
 use Rattle.kinds.specs.Spelling.{Spelling}
 use Rattle.lines.specs.declared.Named.{Named}
@@ -43,7 +44,24 @@ counted most n = cond (counts most (n .number)) (Ok (n .number)) (Err (at-name C
 abbrev pub count-line : ℕ → ℕ → Scan → Taken ℕ
 count-line c most s = then (one (the-letter c) s) (λ _ z. then (named z) (λ n y. then (close y) (λ _ x. taken (counted most n) x)))
 
+-- what was read, if nothing was refused
+abbrev pub value-of : {X : Type 0} → Taken X → Option X
+value-of (took x z) = Some x
+value-of (refused r) = None
+
+-- the letter of the kind that a text's first line names
+abbrev pub kind-letter : List ℕ → Option ℕ
+kind-letter text = value-of (then (one (exactly (codes "plan")) (start text)) (λ _ z. then (one (the-number 1) z) (λ _ y. one letter y)))
+
+abbrev pub is-letter : ℕ → Option ℕ → Bool
+is-letter c None = false
+is-letter c (Some d) = eqb d c
+
 module _ {F G A : Type 0} (f : Spelling F G A) where
+  -- the text's first line names the kind
+  abbrev pub names-kind : List ℕ → Bool
+  names-kind text = is-letter (f .letter) (kind-letter text)
+
   -- plan 1 K
   abbrev pub opening : Scan → Taken (Unit {0})
   opening s =

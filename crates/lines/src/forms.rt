@@ -5,7 +5,7 @@ ghost use Rattle.std.specs.Vec.{made};
 ghost use Rattle.model.specs.Plan.{counts};
 ghost use Rattle.text.specs.Scan.{taken};
 ghost use Rattle.text.specs.Meaning.{scan-of};
-ghost use Rattle.lines.specs.Lines.{named, opening, count-line, event-line, arc-line, edge-line};
+ghost use Rattle.lines.specs.Lines.{named, opening, kind-letter, names-kind, count-line, event-line, arc-line, edge-line};
 use crate::ArcLine;
 use crate::EdgeLine;
 use crate::Named;
@@ -39,6 +39,26 @@ pub fn read_opening<K: Spelling>(tokens: &mut Tokens<'_>) -> Result<(), Refusal>
     tokens.only_number(1)?;
     tokens.only_letter(K::letter())?;
     tokens.end_line()
+}
+
+// The letter of the kind that a text's first line names, where it has the form up to there.
+fn kind_letter(text: &[u8]) -> Option<char>
+    ensures { λ r. ⌜ r ≡ kind-letter (now (text .entry)) ⌝ }
+{
+    let mut tokens = Tokens::new(text);
+    tokens.keyword(b"plan").ok()?;
+    tokens.only_number(1).ok()?;
+    tokens.letter().ok()
+}
+
+// Whether the text's first line names the kind.
+pub fn names_kind<K: Spelling>(text: &[u8]) -> bool
+    ensures { λ r. ⌜ r ≡ names-kind (K·Spelling .formats) (now (text .entry)) ⌝ }
+{
+    match kind_letter(text) {
+        Some(letter) => letter == K::letter(),
+        None => false,
+    }
 }
 
 // The event and the fact of an arc, or none.

@@ -7,6 +7,7 @@ use model::Refusal;
 
 mod forms;
 
+pub use forms::names_kind;
 pub use forms::read_arc;
 pub use forms::read_count;
 pub use forms::read_edge;

@@ -1,5 +1,12 @@
 // Reads a plan on standard input and prints its listing, or how the text is refused.
+use approvals::Approvals;
+use approvals::ApprovalsKind;
+use approvals::ApprovalsSpelling;
+use holder::Holder;
+use holder::HolderKind;
+use holder::HolderSpelling;
 use kinds::Spelling;
+use lines::names_kind;
 use model::RefusalDisplay;
 use plans::MOST_BYTES;
 use plans::Plan;
@@ -38,7 +45,14 @@ fn list<K: Spelling>(rt: &LibcRuntime, text: &[u8]) -> Result<(), AnyError> {
 
 fn run(rt: &LibcRuntime) -> Result<(), AnyError> {
     let text = input(rt)?;
-    list::<Tally>(rt, text.as_slice())
+    let text = text.as_slice();
+    if names_kind::<Holder>(text) {
+        list::<Holder>(rt, text)
+    } else if names_kind::<Approvals>(text) {
+        list::<Approvals>(rt, text)
+    } else {
+        list::<Tally>(rt, text)
+    }
 }
 
 fn main(rt: LibcRuntime) -> Result<(), AnyError> {

@@ -1,8 +1,14 @@
-// Reads each text of a table and compares what came of it with what the table says.
+// Reads each text of each kind's table, and compares what came of it with what the table says.
 // A line of the table is `name | text | result`; in the text `\n`, `\r` and `\t` are the bytes of those
 // names, `\xHH` is any byte, and `\{N piece\}` is the piece N times.
 mod notation;
 
+use approvals::Approvals;
+use approvals::ApprovalsKind;
+use approvals::ApprovalsSpelling;
+use holder::Holder;
+use holder::HolderKind;
+use holder::HolderSpelling;
 use kinds::Spelling;
 use model::RefusalDisplay;
 use notation::expand;
@@ -75,6 +81,12 @@ fn try_table<K: Spelling>(rt: &LibcRuntime, path: &str) -> Result<(), AnyError> 
     Ok(())
 }
 
+fn run(rt: &LibcRuntime) -> Result<(), AnyError> {
+    try_table::<Tally>(rt, "tally.table")?;
+    try_table::<Holder>(rt, "holder.table")?;
+    try_table::<Approvals>(rt, "approvals.table")
+}
+
 fn main(rt: LibcRuntime) -> Result<(), AnyError> {
-    rt.report(try_table::<Tally>(&rt, "tally.table"))
+    rt.report(run(&rt))
 }

@@ -3,17 +3,16 @@ use mathlib.Core.Path.{_≡_, refl}
 use mathlib.Core.List.{List, [], _∷_}
 use Prim.Native.Nat.{ℕ}
 use native.Mathlib.Omega.{arith}
-use lib.Chars.{codes}
 use Rattle.std.specs.Written.{signed}
 use Rattle.std.specs.declared.option.Option.the-variants.{Some}
 use Rattle.std.proofs.shelf.Ways.{tells}
-use Rattle.text.specs.Readers.{letter, the-number}
+use Rattle.text.specs.Readers.{lettered}
 use Rattle.text.specs.Grammar.{Grammar, Readable}
-use Rattle.text.proofs.Spelled.{Reads, Only, Gives, only-done, only-field, gives-done, gives-field, readable, signeds, the-digits, letters}
+use Rattle.text.proofs.Spelled.{Reads, Only, Gives, only-done, only-field, gives-done, gives-field, readable, signeds, letters, only-unused, gives-unused}
 use Rattle.tally.specs.declared.data.Range.{Range}
 use Rattle.tally.specs.declared.data.Action.{Action}
 use Rattle.tally.specs.declared.data.Action.the-variants.{Nothing, Add, AddDatum, Set}
-use Rattle.tally.specs.Spelled.{facts, guards, actions, Range-proper, range-then, Letter, nothing, add, add-datum, set, letter-of, lettered, number-after, action-spelled, Action-proper}
+use Rattle.tally.specs.Spelled.{facts, guards, actions, Range-proper, range-then, Letter, nothing, add, add-datum, set, letter-of, number-after, action-spelled, Action-proper}
 
 only-range : {X : Type 0} {go : Range → Grammar X} {C : List (List ℕ) → X → Type 0} → ((r : Range) → Range-proper r → Only (go r) (λ ws. C (signed (r .lo) ∷ signed (r .hi) ∷ ws))) → Only (range-then go) C
 only-range h = only-field signeds (λ a p. only-field signeds (λ b q. h (record { lo = a; hi = b }) (p, q)))
@@ -35,27 +34,23 @@ code set = 61
 letter-only : (c : ℕ) (l : Letter) → letter-of c ≡ Some l → c ≡ code l
 letter-only c l e = grind (arith, tells)
 
-letter-word : Reads (λ w. lettered (letter w)) (λ _. Unit {0}) (λ l. code l ∷ [])
+letter-word : Reads (lettered letter-of) (λ _. Unit {0}) (λ l. code l ∷ [])
 letter-word =
-    letters lettered code (record {
-      none = refl;
+    letters letter-of code (record {
       only = letter-only;
       each = elim [ nothing ↦ (refl, refl, refl) | add ↦ (refl, refl, refl) | add-datum ↦ (refl, refl, refl) | set ↦ (refl, refl, refl) ];
     })
 
-zero-word : Reads (the-number 0) (λ _. Unit {0}) (λ _. codes "0")
-zero-word = the-digits 0 (omega arith)
-
 number-only : (l : Letter) → Only (number-after l) (λ ws a. Action-proper a × ((code l ∷ []) ∷ ws ≡ action-spelled a))
-number-only nothing = only-field zero-word (λ _ _. only-done (tt, refl))
+number-only nothing = only-unused (tt, refl)
 number-only add = only-field signeds (λ k p. only-done (p, refl))
-number-only add-datum = only-field zero-word (λ _ _. only-done (tt, refl))
+number-only add-datum = only-unused (tt, refl)
 number-only set = only-field signeds (λ k p. only-done (p, refl))
 
 action-gives : (a : Action) → Action-proper a → Gives (actions .grammar) (action-spelled a) a
-action-gives Nothing p = gives-field letter-word {y = nothing} tt (gives-field zero-word tt gives-done)
+action-gives Nothing p = gives-field letter-word {y = nothing} tt gives-unused
 action-gives (Add k) p = gives-field letter-word {y = add} tt (gives-field signeds p gives-done)
-action-gives AddDatum p = gives-field letter-word {y = add-datum} tt (gives-field zero-word tt gives-done)
+action-gives AddDatum p = gives-field letter-word {y = add-datum} tt gives-unused
 action-gives (Set k) p = gives-field letter-word {y = set} tt (gives-field signeds p gives-done)
 
 pub actions-read : Readable actions

@@ -9,8 +9,8 @@ use mir.Val.{SFits}
 use Rattle.std.specs.Written.{signed}
 use Rattle.std.specs.declared.option.Option.{Option}
 use Rattle.std.specs.declared.option.Option.the-variants.{Some, None}
-use Rattle.text.specs.Readers.{signed-word, letter, the-number}
-use Rattle.text.specs.Grammar.{Grammar, done, field, Format}
+use Rattle.text.specs.Readers.{signed-word, lettered}
+use Rattle.text.specs.Grammar.{Grammar, done, field, unused, Format}
 use Rattle.kinds.specs.Spelling.{Spelling}
 use Rattle.tally.specs.declared.data.Range.{Range}
 use Rattle.tally.specs.declared.data.Guard.{Guard}
@@ -46,15 +46,11 @@ abbrev pub letter-of : ℕ → Option Letter
 letter-of c =
     cond (eqb c 110) (Some nothing) (cond (eqb c 43) (Some add) (cond (eqb c 100) (Some add-datum) (cond (eqb c 61) (Some set) None)))
 
-abbrev pub lettered : Option ℕ → Option Letter
-lettered None = None
-lettered (Some c) = letter-of c
-
--- a letter's number; one that the letter does not use is 0
+-- a letter's number
 abbrev pub number-after : Letter → Grammar Action
-number-after nothing = field (the-number 0) (λ _. done Nothing)
+number-after nothing = unused Nothing
 number-after add = field signed-word (λ k. done (Add k))
-number-after add-datum = field (the-number 0) (λ _. done AddDatum)
+number-after add-datum = unused AddDatum
 number-after set = field signed-word (λ k. done (Set k))
 
 abbrev pub action-spelled : Action → List (List ℕ)
@@ -70,7 +66,7 @@ Action-proper AddDatum = Unit {0}
 Action-proper (Set k) = SFits w32 k
 
 abbrev pub actions : Format Action
-actions = record { grammar = field (λ w. lettered (letter w)) number-after; Proper = Action-proper; spelled = action-spelled }
+actions = record { grammar = field (lettered letter-of) number-after; Proper = Action-proper; spelled = action-spelled }
 
 -- the kind's letter is t
 abbrev pub spelling : Spelling Range Guard Action

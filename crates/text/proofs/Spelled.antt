@@ -5,6 +5,7 @@ use mathlib.Core.List.{List, [], _∷_}
 use Prim.Native.Nat.{ℕ, zero, suc, _+_, _≤_, _<_, _^_}
 use native.Mathlib.Omega.{arith}
 use borrow.Author.Needs.{needs}
+use lib.Chars.{codes}
 use lib.Dec.{eqb, leb}
 use lib.IntN.{ℤ, pos, negsuc}
 use lib.ListN.{length, getD}
@@ -19,8 +20,8 @@ use Rattle.std.proofs.shelf.Tests.{and-parts, le-leb, leb-true, eqb-true, ne-eq
 use Rattle.std.proofs.shelf.Ways.{tells}
 use Rattle.text.specs.Cut.{separates, No-separator}
 use Rattle.text.specs.Scan.{Scan, took}
-use Rattle.text.specs.Grammar.{Grammar, done, field, take, Format, Stands-at, Unbroken, Readable}
-use Rattle.text.specs.Readers.{minus, is-digit, all-digits, plain, value-from, value, natural, not-below-zero, below-zero, signed-word, is-text, letter, if-same, the-number}
+use Rattle.text.specs.Grammar.{Grammar, done, field, unused, take, Format, Stands-at, Unbroken, Readable}
+use Rattle.text.specs.Readers.{minus, is-digit, all-digits, plain, value-from, value, natural, not-below-zero, below-zero, signed-word, is-text, letter, meant, lettered, if-same, the-number}
 use Rattle.text.proofs.Values.{natural-within}
 use Rattle.text.proofs.Grammars.{bound, spells, taken-spelled, spelled-taken}
 
@@ -205,19 +206,28 @@ pub letter-back : (c : ℕ) → is-text (c ∷ []) ≡ true → letter (c ∷ []
 letter-back c h = rw h
 
 -- letters that stand for values, each for its own
-pub record Letters {Y : Type 0} (pick : Option ℕ → Option Y) (code : Y → ℕ) : Type 0 where
-  pub none : pick None ≡ None
-  pub only : (c : ℕ) (y : Y) → pick (Some c) ≡ Some y → c ≡ code y
-  pub each : (y : Y) → (pick (Some (code y)) ≡ Some y) × (is-text (code y ∷ []) ≡ true) × (separates (code y) ≡ false)
+pub record Letters {Y : Type 0} (f : ℕ → Option Y) (code : Y → ℕ) : Type 0 where
+  pub only : (c : ℕ) (y : Y) → f c ≡ Some y → c ≡ code y
+  pub each : (y : Y) → (f (code y) ≡ Some y) × (is-text (code y ∷ []) ≡ true) × (separates (code y) ≡ false)
 
-pub letters : {Y : Type 0} (pick : Option ℕ → Option Y) (code : Y → ℕ) → Letters pick code → Reads (λ w. pick (letter w)) (λ _. Unit {0}) (λ y. code y ∷ [])
-letters {Y} pick code l =
+pub letters : {Y : Type 0} (f : ℕ → Option Y) (code : Y → ℕ) → Letters f code → Reads (lettered f) (λ _. Unit {0}) (λ y. code y ∷ [])
+letters {Y} f code l =
     record {
       only = λ w y e. (tt, only w y (letter w) refl e);
-      back = λ y _. let (p, h, _) = l .each y in ap pick (letter-back (code y) h) ∙ p;
+      back = λ y _. let (p, h, _) = l .each y in ap (meant f) (letter-back (code y) h) ∙ p;
       clear = λ y _. (l .each y .2, tt);
     }
   where
-    only : (w : List ℕ) (y : Y) (o : Option ℕ) → letter w ≡ o → pick o ≡ Some y → w ≡ code y ∷ []
-    only w y None q e = absurd (none-some (sym (l .none) ∙ e))
+    only : (w : List ℕ) (y : Y) (o : Option ℕ) → letter w ≡ o → meant f o ≡ Some y → w ≡ code y ∷ []
+    only w y None q e = absurd (none-some e)
     only w y (Some c) q e = letter-only w c q .1 ∙ ap (λ c. c ∷ []) (l .only c y e)
+
+zero-word : Reads (the-number 0) (λ _. Unit {0}) (λ _. codes "0")
+zero-word = the-digits 0 (omega arith)
+
+module _ {X : Type 0} {x : X} where
+  pub only-unused : {C : List (List ℕ) → X → Type 0} → C (codes "0" ∷ []) x → Only (unused x) C
+  only-unused h = only-field zero-word (λ _ _. only-done h)
+
+  pub gives-unused : Gives (unused x) (codes "0" ∷ []) x
+  gives-unused = gives-field zero-word tt gives-done

@@ -5,12 +5,17 @@ use mathlib.Core.List.{List, [], _∷_, _++_, map}
 use Prim.Native.Nat.{ℕ}
 use Rattle.std.specs.declared.option.Option.{Option}
 use Rattle.text.specs.Cut.{Piece, No-separator}
+use Rattle.text.specs.Readers.{the-number}
 use Rattle.text.specs.Scan.{Scan, Taken, took, then, one, with-tokens}
 
 -- a value, or one more token and what follows by what it says
 pub data Grammar (X : Type 0) : Type 1 where
   done : X → Grammar X
   field : {Y : Type 0} → (List ℕ → Option Y) → (Y → Grammar X) → Grammar X
+
+-- a number that nothing uses is 0
+abbrev pub unused : {X : Type 0} → X → Grammar X
+unused x = field (the-number 0) (λ _. done x)
 
 -- a value read by its grammar, token by token
 abbrev pub take : {X : Type 0} → Grammar X → Scan → Taken X

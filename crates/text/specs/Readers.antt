@@ -66,6 +66,14 @@ letter [] = None
 letter (c ∷ []) = cond (is-text (c ∷ [])) (Some c) None
 letter (c ∷ d ∷ cs) = None
 
+abbrev pub meant : {L : Type 0} → (ℕ → Option L) → Option ℕ → Option L
+meant f None = None
+meant f (Some c) = f c
+
+-- what a letter stands for
+abbrev pub lettered : {L : Type 0} → (ℕ → Option L) → List ℕ → Option L
+lettered f w = meant f (letter w)
+
 abbrev pub if-same : ℕ → Option ℕ → Option (Unit {0})
 if-same v None = None
 if-same v (Some n) = cond (eqb n v) (Some tt) None

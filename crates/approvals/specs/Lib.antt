@@ -1,0 +1,3 @@
+pub mod Approvals
+pub mod Spelled
+pub mod Cases
