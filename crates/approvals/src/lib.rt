@@ -1,5 +1,7 @@
 // The approvals kind: the store has a bit for each reviewer who has approved, and guards ask for bits of store and datum
 // and for how many the store has.
+#![tactic(auto)]
+
 ghost use Rattle.std.specs.Prelude.{◌≡◌, refl};
 ghost use Rattle.approvals.specs.Approvals.{approvals, matches, contradictory, both, asks_nothing, implied_by};
 ghost use Rattle.approvals.specs.Cases.{WorkedCases};

@@ -1,5 +1,7 @@
 // The holder kind: the store is the user who holds, or 0 for nobody, and guards ask who holds and which user the datum
 // is. Users are 1 to 65535.
+#![tactic(auto)]
+
 ghost use Rattle.std.specs.Prelude.{◌≡◌, refl};
 ghost use Rattle.holder.specs.Cases.{WorkedCases};
 ghost use Rattle.holder.specs.Holder.{holder, largest, is_user, meets, empty};

@@ -1,5 +1,7 @@
 // The lines of a plan text: which tokens stand in each, from the left, and the ranges of counts and names. What a line
 // adds to the plan so far is not settled here.
+#![tactic(auto)]
+
 ghost use Rattle.std.specs.Prelude.{◌≡◌};
 ghost use Rattle.lines.specs.Lines.{within, counted, at_name};
 

@@ -1,4 +1,6 @@
 // Reads a plan on standard input and prints its listing, or how the text is refused.
+#![tactic(auto)]
+
 use anyhow::anyhow;
 use approvals::Approvals;
 use holder::Holder;

@@ -1,5 +1,6 @@
 // The plain data of plans. What it means, and every definition that a reader has to believe, stands in
 // this crate's specs/. No code that reads, examines or follows a plan belongs here.
+#![tactic(auto)]
 
 ghost use Rattle.std.specs.Prelude.{◌≡◌, Some};
 ghost use Rattle.model.specs.Refusals.{number_of, refusal_text};

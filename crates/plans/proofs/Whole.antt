@@ -6,6 +6,7 @@ use Rattle.model.specs.Kind.{Kind}
 use Rattle.model.specs.Plan.{Plan, WellFormed}
 use Rattle.text.specs.Cut.{Piece}
 use Rattle.text.specs.Scan.{Scan, Taken, took, refused, then, over, start}
+use Rattle.kinds.specs.declared.kind.Kind.{Ghosts}
 use Rattle.kinds.specs.Spelling.{Spelling}
 use Rattle.plans.specs.declared.item.Item.{Item}
 use Rattle.plans.specs.declared.plan.Plan.{Plan as Plans}
@@ -77,6 +78,6 @@ module _ {F G A : Type 0} (k : Kind F G A) (f : Spelling F G A) where
       let r = then_took (header f (start bytes)) _ o.1 in
       body_fills r.at.below r.value r.at (header_fills (start bytes) r.first) r.second
 
-  pub read_well_formed : {K : Type 0} (bytes : List ℕ) (q : Plans K F G A) → reading k f bytes ≡ Ok (plan_of q) → WellFormed k (plan_of q)
+  pub read_well_formed : {K : Type 0} {b : Ghosts K F G A} (bytes : List ℕ) (q : Plans K F G A b) → reading k f bytes ≡ Ok (plan_of q) → WellFormed k (plan_of q)
   read_well_formed bytes q h =
       record { sizes = q.sizes; bad_states = q.bad_states; own_arcs = q.own_arcs; own_edges = q.own_edges; filled = reading_fills bytes h }

@@ -3,10 +3,11 @@ use Rattle.std.specs.Prelude.{ℕ, suc, List, [], ◌∷◌, Some, None, vec_ite
 use Rattle.model.specs.declared.Point.{Point}
 use Rattle.model.specs.declared.Arc.{Arc}
 use Rattle.model.specs.Plan as model
+use Rattle.kinds.specs.declared.kind.Kind.{Ghosts}
 use Rattle.plans.specs.declared.plan.Plan.{Plan}
 
-module _ {K F G A : Type 0} where
-  abbrev pub plan_of : Plan K F G A → model.Plan F G A
+module _ {K F G A : Type 0} {b : Ghosts K F G A} where
+  abbrev pub plan_of : Plan K F G A b → model.Plan F G A
   plan_of p = record {
     nodes = p.nodes;
     states = p.states;

@@ -1,4 +1,6 @@
 // Plans of any kind, and their reading from a text.
+#![tactic(auto)]
+
 mod error;
 mod item;
 mod items;

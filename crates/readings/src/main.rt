@@ -1,6 +1,8 @@
 // Reads each text of each kind's table, and compares what came of it with what the table says.
 // A line of the table is `name | text | result`; in the text `\n`, `\r` and `\t` are the bytes of those
 // names, `\xHH` is any byte, and `\{N piece\}` is the piece N times.
+#![tactic(auto)]
+
 mod notation;
 
 use anyhow::anyhow;

@@ -1,5 +1,7 @@
 // The tally kind: the store counts, and guards ask where the count and the datum lie.
 // Stores and datums are words, read as signed by two's complement.
+#![tactic(auto)]
+
 ghost use Rattle.std.specs.Prelude.{◌≡◌, refl};
 ghost use Rattle.std.specs.Int.{w32};
 ghost use Rattle.std.proofs.Common.{of_z, to_z};

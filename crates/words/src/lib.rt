@@ -1,4 +1,6 @@
 // Sets of the numbers 0 to 31, each in a word: n is a member where bit n is set.
+#![tactic(auto)]
+
 ghost use Rattle.std.specs.Prelude.{◌≡◌, ◌≤◌};
 ghost use Rattle.words.specs.Sets.{bits, word, insert, union_of, difference_of, is_empty, is_subset, is_disjoint, size};
 

@@ -8,4 +8,4 @@ first_rest c [] h e = absurd (omega arith)
 first_rest c (b ∷ bs) h e = rw (e, take_all (length (b ∷ bs) - 1) bs (omega arith))
 
 pub returns-in-45 : goal.returns-in-45
-returns-in-45 c = record { bytes = first_rest 45 c.args.word.now (omega (arith, false-eqb _ 0 c.if-is-empty.ensures)) (omega arith); shape = tt }
+returns-in-45 c = record { bytes = first_rest 45 c.args.word.now (omega (arith, false-eqb _ 0 c.if-is_empty.ensures)) (omega arith); shape = tt }
