@@ -1,4 +1,4 @@
--- The laws of the approvals kind, each under its name.
+-- Proofs of the laws of the approvals kind, each under its law's name.
 use Rattle.std.specs.Prelude.{◌≡◌, ℕ, ◌-◌, ◌^◌, ◌<◌, ◌≤◌, Bool, true, false, not, ◌&&◌, ◌||◌, T, ◌↔◌, ◌==◌, nat_le, nat_lt, refl}
 use Rattle.std.proofs.Common.{true≢false, inl, inr, sym, ap, ◌∙◌, arith, lit<, ltb→lt, lt→ltb, nltb→le, leb→le, le→leb, eqb→eq}
 use Rattle.std.proofs.lemmas.Bool.{false≢true}

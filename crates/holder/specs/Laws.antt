@@ -1,4 +1,4 @@
--- The laws of the holder kind, each under its name.
+-- Proofs of the laws of the holder kind, each under its law's name.
 use Rattle.std.specs.Prelude.{◌≡◌, ℕ, ◌^◌, ◌<◌, ◌≤◌, Bool, true, false, cond, T, ◌↔◌, ◌==◌, refl}
 use Rattle.std.proofs.Common.{subst, arith, lit≤, eqb→eq, T_not}
 use Rattle.std.proofs.Math.Dec.{eqb_refl, not_T}

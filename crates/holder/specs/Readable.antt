@@ -1,4 +1,4 @@
--- Each fact, guard and action has one spelling, and reading is its inverse.
+-- Proofs that each fact, guard and action has one spelling, and that reading is its inverse.
 use Rattle.std.specs.Prelude.{◌≡◌, ℕ, ◌≤◌, List, [], ◌∷◌, Some, decimal, refl}
 use Rattle.std.proofs.Common.{arith}
 use Rattle.std.proofs.lemmas.Bool.Decides.{nat_tests}

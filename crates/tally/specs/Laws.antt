@@ -1,4 +1,4 @@
--- The laws of the tally kind, each under its name.
+-- Proofs of the laws of the tally kind, each under its law's name.
 use Rattle.std.specs.Prelude.{◌≡◌, ℕ, ◌^◌, ◌<◌, ◌&&◌, T, ◌↔◌, ℤ, pos, negsuc, ◌+ℤ◌, refl}
 use Rattle.std.proofs.Common.{inl, inr, arith, lit<, ltb→lt}
 use Rattle.std.specs.Float.Ieee.Fits.{and_i, and_l, and_r}

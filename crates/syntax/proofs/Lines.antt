@@ -3,11 +3,11 @@ use Rattle.std.proofs.Common.{◌≡◌, ℕ, suc, ◌+◌, ◌≤◌, Bool, tru
 use Rattle.std.specs.List.{flat_map, AllByRecursion as All}
 use Rattle.std.proofs.lemmas.List.{append_assoc, append-nil, append_cancel_left, length-append}
 use Rattle.std.proofs.lemmas.Bool.{eqb-true}
-use Rattle.text.specs.Cut.{Piece, longer, cut, space, line_feed}
+use Rattle.text.specs.Cut.{Piece, cut, space, line_feed}
 use Rattle.text.specs.Grammar.{StandsAt, Unbroken}
 use Rattle.text.specs.Meaning.{scan_at, before}
-use Rattle.text.specs.Scan.{Scan, took, enter, close, close_at, with_tokens}
-use Rattle.text.proofs.Cuts.{piece, First, first, word_space, word_stops, close_feed, number_is}
+use Rattle.text.specs.Scan.{Scan, took, enter, close, close_at}
+use Rattle.text.proofs.Cuts.{piece, First, first, word_space, word_stops, close_feed}
 use Rattle.syntax.specs.Texts.{byte_after, line}
 
 -- the start of line n, where bs are the bytes from the place `at` on

@@ -1,8 +1,8 @@
 -- The lines of bad states, arcs and edges.
-use Rattle.std.proofs.Common.{◌≡◌, ℕ, ◌≤◌, Bool, true, false, cond, not, ◌&&◌, eqb, ltb, ◌⊎◌, List, [], ◌∷◌, ◌++◌, length, Some, None, Ok, Err, decimal, Option, Result, sym, refl, ap, ◌∙◌, subst, inl, inr, arith}
+use Rattle.std.proofs.Common.{◌≡◌, ℕ, ◌≤◌, Bool, true, false, cond, not, ◌&&◌, eqb, ltb, List, [], ◌∷◌, ◌++◌, length, Some, None, Ok, Err, decimal, Option, Result, sym, refl, ap, ◌∙◌, subst, inl, inr}
 use Rattle.std.proofs.lemmas.Bool.{and_parts, eqb-true}
 use Rattle.model.specs.declared.Cause.{Cause}
-use Rattle.model.specs.declared.Cause.TheVariants.{Form, Count, Name, Empty}
+use Rattle.model.specs.declared.Cause.TheVariants.{Count, Name, Empty}
 use Rattle.model.specs.declared.Refusal.{Refusal}
 use Rattle.model.specs.declared.Point.{Point}
 use Rattle.model.specs.declared.Arc.{Arc as Arcs}
@@ -11,7 +11,7 @@ use Rattle.model.specs.Kind.{Kind}
 use Rattle.model.specs.Plan.{Plan, point_in, arc_in, edge_in, fact_filled}
 use Rattle.text.specs.Grammar.{StandsAt, take}
 use Rattle.text.specs.Readers.{letter, is_nil, optional}
-use Rattle.text.specs.Scan.{Scan, Taken, took, refused, taken, then, one, close, broken, place}
+use Rattle.text.specs.Scan.{Scan, Taken, took, refused, then, one, broken, place}
 use Rattle.text.proofs.Spelled.{letter_only}
 use Rattle.kinds.specs.Spelling.{Spelling, ReadableParts}
 use Rattle.lines.specs.declared.Named.{Named}
@@ -25,8 +25,8 @@ use Rattle.syntax.specs.Items.{and_then, last, room, too_many, bad_of, point_of,
 use Rattle.syntax.specs.Texts.{largest, point_tokens, item_tokens, PointFormed, ItemFormed}
 use Rattle.syntax.proofs.Steps.{then_took}
 use Rattle.syntax.proofs.Lines.{LineAt}
-use Rattle.syntax.proofs.Tokens.{stands_none, stands_join, stands_end, same_line, same_lines, one_there, one_back, take_back, named_there, named_back, optional_token, OptionalSmall, optional_only, optional_back}
-use Rattle.syntax.proofs.Judged.{first_of, unless, Settled, settled_then, settled_if, settled_test, settled_within, ByForm, by_form_then, by_form_one, by_form_take, by_form_named, Outcome, Answers, FormedAt, ReadsAt, whole_reads}
+use Rattle.syntax.proofs.Tokens.{stands_join, stands_end, same_line, same_lines, one_there, one_back, take_back, named_there, named_back, optional_token, OptionalSmall, optional_only, optional_back}
+use Rattle.syntax.proofs.Judged.{first_of, unless, Settled, settled_then, settled_if, settled_within, ByForm, by_form_then, by_form_one, by_form_take, by_form_named, Outcome, Answers, FormedAt, ReadsAt, whole_reads}
 
 -- a test that must fail, and then a value
 settled_not : {X : Type 0} {line : ℕ} (x : X) (b : Bool) (c : Cause) (r : Refusal) → r.cause ≡ c → r.line ≡ line → Settled line x (unless (not b) c) (cond b (Err r) (Ok x))

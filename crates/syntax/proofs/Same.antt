@@ -1,5 +1,5 @@
 -- A plan's lines tell the plan: lines with the same tokens say the same.
-use Rattle.std.proofs.Common.{◌≡◌, ℕ, ◌^◌, ◌<◌, ◌≤◌, true, List, [], ◌∷◌, ◌++◌, map, length, decimal, sym, refl, ap, ◌∙◌, subst, arith}
+use Rattle.std.proofs.Common.{◌≡◌, ℕ, ◌≤◌, true, List, [], ◌∷◌, ◌++◌, map, decimal, sym, refl, ap, ◌∙◌, subst, arith}
 use Rattle.std.specs.List.{AllByRecursion as All}
 use Rattle.std.proofs.lemmas.Fmt.{decimal_injective}
 use Rattle.model.specs.declared.Arc.{Arc as Arcs}
@@ -10,9 +10,6 @@ use Rattle.text.specs.Grammar.{StandsAt}
 use Rattle.text.specs.Scan.{Scan, took}
 use Rattle.text.specs.Meaning.{before}
 use Rattle.kinds.specs.Spelling.{Spelling, ReadableParts}
-use Rattle.lines.specs.declared.ArcLine.{ArcLine}
-use Rattle.lines.specs.declared.EdgeLine.{EdgeLine}
-use Rattle.lines.specs.Lines.{arc_line, edge_line}
 use Rattle.syntax.specs.declared.Item.{Item}
 use Rattle.syntax.specs.declared.Item.TheVariants.{Bad, Arc, Edge}
 use Rattle.syntax.specs.Items.{blank, added}

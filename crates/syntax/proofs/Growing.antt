@@ -1,5 +1,5 @@
 -- A plan grows line by line: what its lines are then, and what is asked of it.
-use Rattle.std.proofs.Common.{◌≡◌, ℕ, ◌≤◌, Bool, true, false, ◌&&◌, ltb, ◌↔◌, List, [], ◌∷◌, ◌++◌, map, length, sym, refl, ap, ◌∙◌, subst, arith}
+use Rattle.std.proofs.Common.{◌≡◌, ℕ, ◌≤◌, Bool, true, ◌&&◌, ltb, ◌↔◌, List, [], ◌∷◌, ◌++◌, map, length, sym, refl, ap, ◌∙◌, subst, arith}
 use Rattle.std.specs.List.{list_all, flat_map, AllByRecursion as All}
 use Rattle.std.proofs.ByRecursion.{All-push as every-push}
 use Rattle.std.proofs.lemmas.List.{append_assoc, append-nil, length_push, map_push, flat_map_more}
@@ -16,7 +16,7 @@ use Rattle.syntax.specs.declared.Item.TheVariants.{Bad, Arc, Edge}
 use Rattle.syntax.specs.Items.{blank, last, added}
 use Rattle.syntax.specs.Texts.{line, items, item_tokens, opening_lines, lines_of, spelled, ItemFormed, Formed}
 use Rattle.syntax.specs.Faults.{Asked}
-use Rattle.syntax.proofs.Fitting.{All-push, rises_push}
+use Rattle.syntax.proofs.Fitting.{all_push, rises_push}
 use Rattle.syntax.proofs.ItemLines.{has_room, own_names, in_order, filled}
 
 nil_from : {X : Type 0} (xs : List X) → is_nil xs ≡ true → xs ≡ []
@@ -109,7 +109,7 @@ module _ {F G A : Type 0} (k : Kind F G A) (f : Spelling F G A) (p : Plan F G A)
       back (h, g) =
           let (a, c) = and_parts (rises 0 bad) _ h in
           let (b, d) = and_parts (ltb (last 0 bad) q) _ g in
-          and_from (rises 0 (bad ++ q ∷ [])) _ (rises_push 0 bad q a b) (All-push (λ q. ltb q states) bad q c d)
+          and_from (rises 0 (bad ++ q ∷ [])) _ (rises_push 0 bad q a b) (all_push (λ q. ltb q states) bad q c d)
 
   pub name_added : (i : Item F G A) → Asked k f Name (added p i) ↔ (Asked k f Name p × (own_names p i ≡ true))
   name_added (Bad q) =
@@ -117,14 +117,14 @@ module _ {F G A : Type 0} (k : Kind F G A) (f : Spelling F G A) (p : Plan F G A)
       (λ (bad, arcs, edges). (((s.0 bad).0, arcs, edges), (s.0 bad).1), λ ((bad, arcs, edges), own). (s.1 (bad, own), arcs, edges))
   name_added (Arc a) =
       let t = arc_in p.nodes p.events in
-      (λ (bad, arcs, edges). let (others, here) = all_pop t p.arcs a arcs in ((bad, others, edges), here), λ ((bad, arcs, edges), own). (bad, All-push t p.arcs a arcs own, edges))
+      (λ (bad, arcs, edges). let (others, here) = all_pop t p.arcs a arcs in ((bad, others, edges), here), λ ((bad, arcs, edges), own). (bad, all_push t p.arcs a arcs own, edges))
   name_added (Edge e) =
       let t = edge_in p.states p.events in
-      (λ (bad, arcs, edges). let (others, here) = all_pop t p.edges e edges in ((bad, arcs, others), here), λ ((bad, arcs, edges), own). (bad, arcs, All-push t p.edges e edges own))
+      (λ (bad, arcs, edges). let (others, here) = all_pop t p.edges e edges in ((bad, arcs, others), here), λ ((bad, arcs, edges), own). (bad, arcs, all_push t p.edges e edges own))
 
   pub fact_added : (i : Item F G A) → Asked k f Empty (added p i) ↔ (Asked k f Empty p × (filled k i ≡ true))
   fact_added (Bad q) = (λ h. (h, refl), λ h. h.0)
-  fact_added (Arc a) = let t : Arcs F → Bool = λ a. fact_filled k a.point in (all_pop t p.arcs a, λ (h, own). All-push t p.arcs a h own)
+  fact_added (Arc a) = let t : Arcs F → Bool = λ a. fact_filled k a.point in (all_pop t p.arcs a, λ (h, own). all_push t p.arcs a h own)
   fact_added (Edge e) = (λ h. (h, refl), λ h. h.0)
 
 -- a plan with some more lines

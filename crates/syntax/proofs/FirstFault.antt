@@ -2,25 +2,25 @@
 use Rattle.std.proofs.Common.{◌≡◌, ℕ, suc, ◌+◌, ◌-◌, ◌<◌, ◌≤◌, true, ◌⊎◌, List, [], ◌∷◌, ◌++◌, length, take, Some, None, Option, sym, refl, ap, ◌∙◌, subst, inl, inr, arith}
 use Rattle.std.specs.List.{flat_map, AllByRecursion as All}
 use Rattle.std.proofs.ByRecursion.{All-take}
-use Rattle.std.proofs.lemmas.List.{append_assoc, length-append, length_push, take_at}
+use Rattle.std.proofs.lemmas.List.{length-append, length_push, take_at}
 use Rattle.model.specs.declared.Cause.{Cause}
 use Rattle.model.specs.declared.Cause.TheVariants.{Length, Form, Count, Name, Empty}
 use Rattle.model.specs.declared.Refusal.{Refusal}
 use Rattle.model.specs.Kind.{Kind}
 use Rattle.model.specs.Plan.{Plan}
 use Rattle.model.specs.Refusals.{number_of}
-use Rattle.text.specs.Scan.{Scan, Taken, took, refused}
+use Rattle.text.specs.Scan.{Scan, Taken, refused}
 use Rattle.text.proofs.Cuts.{number_is}
 use Rattle.kinds.specs.Spelling.{Spelling, ReadableParts}
 use Rattle.syntax.specs.Texts.{line, lines_of, Formed}
 use Rattle.syntax.specs.Faults.{Asked, Begins, FirstFault, RefusedFor}
 use Rattle.syntax.proofs.Lines.{At, LineUnbroken, line_there, next_line}
-use Rattle.syntax.proofs.Judged.{Outcome, Answers, FormedAt, ReadsAt, WrongAt, given_line}
+use Rattle.syntax.proofs.Judged.{Answers, FormedAt, ReadsAt, WrongAt, given_line}
 use Rattle.syntax.proofs.Reached.{lines_unbroken, Reached, reached_more}
 
-all_middle : {X : Type 0} {P : X → Type 0} (xs : List X) {x : X} {ys : List X} → All P (xs ++ x ∷ ys) → P x
-all_middle [] h = h.0
-all_middle (y ∷ xs) h = all_middle xs h.1
+all_middle : {X : Type 0} (P : X → Type 0) (xs : List X) (x : X) (ys : List X) → All P (xs ++ x ∷ ys) → P x
+all_middle P [] x ys h = h.0
+all_middle P (y ∷ xs) x ys h = all_middle P xs x ys h.1
 
 refused_same : {X : Type 0} {r u : Refusal} → ◌≡◌ {A = Taken X} (refused r) (refused u) → r ≡ u
 refused_same e = cc
@@ -95,10 +95,11 @@ module _ {F G A : Type 0} (k : Kind F G A) (f : Spelling F G A) (readable : Read
         let v = continues.next b.plan n.line_next n.more formed n.lines_are in
         let bytes_are : reached.rest ≡ line (tokens v.value) ++ b.rest = n.bytes_are ∙ ap (λ ws. line ws ++ b.rest) v.is in
         let here : At (suc (length ls)) (length (flat_map line ls)) (line (tokens v.value) ++ b.rest) ≡ s = ap (At (suc (length ls)) (length (flat_map line ls))) (sym bytes_are) ∙ sym reached.at in
-        let unbroken = subst LineUnbroken v.is (all_middle ls (subst (All LineUnbroken) n.lines_are (lines_unbroken f readable b.plan formed))) in
+        let unbroken = subst LineUnbroken v.is (all_middle LineUnbroken ls _ _ (subst (All LineUnbroken) n.lines_are (lines_unbroken f readable b.plan formed))) in
         let there = given_line make Good tokens wrong (suc (length ls)) (length (flat_map line ls)) v.value b.rest unbroken v.good in
+        let after = At (suc (suc (length ls))) (length (flat_map line ls) + length (line (tokens v.value))) b.rest in
         v.right r.cause (b.passes r.cause (omega (arith, is)))
-        (refused_by v.value _ (subst (λ a. FormedAt make Good tokens wrong a v.value _) here there))
+        (refused_by v.value after (subst (λ a. FormedAt make Good tokens wrong a v.value after) here there))
 
     passes : (c : ℕ) → number_of r.cause ≡ c → 2 < c → Begins k f (c - 1) (suc (length ls)) bytes
     passes c is above = by reads.there.1
