@@ -1,6 +1,6 @@
 -- A line that is refused is the first that fails.
 use Rattle.std.proofs.Common.{◌≡◌, ℕ, suc, ◌+◌, ◌-◌, ◌<◌, ◌≤◌, true, ◌⊎◌, List, [], ◌∷◌, ◌++◌, length, take, Some, None, Option, sym, refl, ap, ◌∙◌, subst, inl, inr, arith}
-use Rattle.std.specs.List.{flat_map, AllByRecursion as All}
+use Rattle.std.specs.List.{flat_map, AllByRecursion}
 use Rattle.std.proofs.ByRecursion.{All-take}
 use Rattle.std.proofs.lemmas.List.{length-append, length_push, take_at}
 use Rattle.model.specs.declared.Cause.{Cause}
@@ -18,7 +18,7 @@ use Rattle.syntax.proofs.Lines.{At, LineUnbroken, line_there, next_line}
 use Rattle.syntax.proofs.Judged.{Answers, FormedAt, ReadsAt, WrongAt, given_line}
 use Rattle.syntax.proofs.Reached.{lines_unbroken, Reached, reached_more}
 
-all_middle : {X : Type 0} (P : X → Type 0) (xs : List X) (x : X) (ys : List X) → All P (xs ++ x ∷ ys) → P x
+all_middle : {X : Type 0} (P : X → Type 0) (xs : List X) (x : X) (ys : List X) → AllByRecursion P (xs ++ x ∷ ys) → P x
 all_middle P [] x ys h = h.0
 all_middle P (y ∷ xs) x ys h = all_middle P xs x ys h.1
 
@@ -89,13 +89,13 @@ module _ {F G A : Type 0} (k : Kind F G A) (f : Spelling F G A) (readable : Read
     fails : (c : ℕ) → number_of r.cause ≡ c → 2 ≤ c → Begins k f c (suc (length ls)) bytes → ⊥
     fails c is two b =
         let front = (front_lines ls continues.so_far continues.more continues.lines).1 in
-        let plain = subst (All LineUnbroken) front (All-take LineUnbroken (length ls) (lines_of f continues.so_far) (lines_unbroken f readable continues.so_far (continues.passes Form))) in
+        let plain = subst (AllByRecursion LineUnbroken) front (All-take LineUnbroken (length ls) (lines_of f continues.so_far) (lines_unbroken f readable continues.so_far (continues.passes Form))) in
         let formed = b.passes Form two in
         let n = next_line ls (lines_of f b.plan) plain (lines_unbroken f readable b.plan formed) b.enough (sym b.is ∙ reached.is) in
         let v = continues.next b.plan n.line_next n.more formed n.lines_are in
         let bytes_are : reached.rest ≡ line (tokens v.value) ++ b.rest = n.bytes_are ∙ ap (λ ws. line ws ++ b.rest) v.is in
         let here : At (suc (length ls)) (length (flat_map line ls)) (line (tokens v.value) ++ b.rest) ≡ s = ap (At (suc (length ls)) (length (flat_map line ls))) (sym bytes_are) ∙ sym reached.at in
-        let unbroken = subst LineUnbroken v.is (all_middle LineUnbroken ls _ _ (subst (All LineUnbroken) n.lines_are (lines_unbroken f readable b.plan formed))) in
+        let unbroken = subst LineUnbroken v.is (all_middle LineUnbroken ls _ _ (subst (AllByRecursion LineUnbroken) n.lines_are (lines_unbroken f readable b.plan formed))) in
         let there = given_line make Good tokens wrong (suc (length ls)) (length (flat_map line ls)) v.value b.rest unbroken v.good in
         let after = At (suc (suc (length ls))) (length (flat_map line ls) + length (line (tokens v.value))) b.rest in
         v.right r.cause (b.passes r.cause (omega (arith, is)))

@@ -1,6 +1,6 @@
 -- A plan grows line by line: what its lines are then, and what is asked of it.
 use Rattle.std.proofs.Common.{◌≡◌, ℕ, ◌≤◌, Bool, true, ◌&&◌, ltb, ◌↔◌, List, [], ◌∷◌, ◌++◌, map, length, sym, refl, ap, ◌∙◌, subst, arith}
-use Rattle.std.specs.List.{list_all, flat_map, AllByRecursion as All}
+use Rattle.std.specs.List.{list_all, flat_map, AllByRecursion}
 use Rattle.std.proofs.ByRecursion.{All-push as every-push}
 use Rattle.std.proofs.lemmas.List.{append_assoc, append-nil, length_push, map_push, flat_map_more}
 use Rattle.std.proofs.lemmas.Bool.{and_parts, and_from, lt-ltb, ltb-true}
@@ -74,9 +74,9 @@ module _ {F G A : Type 0} (p : Plan F G A) where
     spelled_added i h = ap (flat_map line) (lines_added i h) ∙ sym (flat_map_more line [] (lines_of f p) (item_tokens f i))
 
     pub formed_added : (i : Item F G A) → in_order p i ≡ true → Formed f p → ItemFormed f i → Formed f (added p i)
-    formed_added i h own new = by i (subst (All (ItemFormed f)) (sym (items_added i h)) (every-push (ItemFormed f) (items p) i own.parts new))
+    formed_added i h own new = by i (subst (AllByRecursion (ItemFormed f)) (sym (items_added i h)) (every-push (ItemFormed f) (items p) i own.parts new))
       where
-        by : (i : Item F G A) → All (ItemFormed f) (items (added p i)) → Formed f (added p i)
+        by : (i : Item F G A) → AllByRecursion (ItemFormed f) (items (added p i)) → Formed f (added p i)
         by (Bad q) a = record { nodes = own.nodes; states = own.states; events = own.events; parts = a }
         by (Arc x) a = record { nodes = own.nodes; states = own.states; events = own.events; parts = a }
         by (Edge e) a = record { nodes = own.nodes; states = own.states; events = own.events; parts = a }

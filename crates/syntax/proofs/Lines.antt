@@ -1,6 +1,6 @@
 -- A line of a text, as its bytes and as the tokens that a scan finds there.
 use Rattle.std.proofs.Common.{◌≡◌, ℕ, suc, ◌+◌, ◌≤◌, Bool, true, false, eqb, ◌⊎◌, List, [], ◌∷◌, ◌++◌, map, length, take, sym, refl, ap, ◌∙◌, subst, inl, inr, ⊎_elim, add-zero, arith}
-use Rattle.std.specs.List.{flat_map, AllByRecursion as All}
+use Rattle.std.specs.List.{flat_map, AllByRecursion}
 use Rattle.std.proofs.lemmas.List.{append_assoc, append-nil, append_cancel_left, length-append}
 use Rattle.std.proofs.lemmas.Bool.{eqb-true}
 use Rattle.text.specs.Cut.{Piece, cut, space, line_feed}
@@ -168,7 +168,7 @@ pub record NextOf (ls lines : List (List (List ℕ))) (x y : List ℕ) : Type 0 
   pub bytes_are : y ≡ line line_next ++ x
 
 -- where bytes begin with the lines ls, and with one more of `lines`, those are the first of them
-pub next_line : (ls lines : List (List (List ℕ))) {x y : List ℕ} → All LineUnbroken ls → All LineUnbroken lines → suc (length ls) ≤ length lines
+pub next_line : (ls lines : List (List (List ℕ))) {x y : List ℕ} → AllByRecursion LineUnbroken ls → AllByRecursion LineUnbroken lines → suc (length ls) ≤ length lines
     → flat_map line (take (suc (length ls)) lines) ++ x ≡ flat_map line ls ++ y → NextOf ls lines x y
 next_line ls [] u t h e = absurd (omega arith)
 next_line [] (v ∷ lines) {x} u t h e =

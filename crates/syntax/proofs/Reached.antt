@@ -1,6 +1,6 @@
 -- The reading passes the lines of a text one after another.
 use Rattle.std.proofs.Common.{◌≡◌, ℕ, suc, ◌+◌, ◌≤◌, List, [], ◌∷◌, ◌++◌, length, Some, None, decimal, Option, sym, refl, ap, ◌∙◌, subst, arith}
-use Rattle.std.specs.List.{flat_map, AllByRecursion as All}
+use Rattle.std.specs.List.{flat_map, AllByRecursion}
 use Rattle.std.proofs.ByRecursion.{All-map, All-weaker}
 use Rattle.std.proofs.lemmas.List.{append_assoc, length-append, length_push, flat_map_more}
 use Rattle.model.specs.declared.Cause.{Cause}
@@ -55,7 +55,7 @@ module _ {F G A : Type 0} (f : Spelling F G A) (readable : ReadableParts f) wher
   pub first_unbroken : LineUnbroken (first_tokens f readable tt)
   first_unbroken = ((refl, (refl, (refl, (refl, tt)))), ((refl, tt), (readable.letter_unbroken, tt)))
 
-  pub lines_unbroken : (p : Plan F G A) → Formed f p → All LineUnbroken (lines_of f p)
+  pub lines_unbroken : (p : Plan F G A) → Formed f p → AllByRecursion LineUnbroken (lines_of f p)
   lines_unbroken p h = (
     first_unbroken,
     (

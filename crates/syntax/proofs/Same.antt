@@ -1,6 +1,6 @@
 -- A plan's lines tell the plan: lines with the same tokens say the same.
 use Rattle.std.proofs.Common.{◌≡◌, ℕ, ◌≤◌, true, List, [], ◌∷◌, ◌++◌, map, decimal, sym, refl, ap, ◌∙◌, subst, arith}
-use Rattle.std.specs.List.{AllByRecursion as All}
+use Rattle.std.specs.List.{AllByRecursion}
 use Rattle.std.proofs.lemmas.Fmt.{decimal_injective}
 use Rattle.model.specs.declared.Arc.{Arc as Arcs}
 use Rattle.model.specs.declared.Edge.{Edge as Edges}
@@ -78,7 +78,7 @@ module _ {F G A : Type 0} (f : Spelling F G A) (readable : ReadableParts f) wher
     formed : ItemFormed f next
     tokens : v ≡ item_tokens f next
 
-  more_items : (is js : List (Item F G A)) (v : List (List ℕ)) (more : List (List (List ℕ))) → All (ItemFormed f) is → All (ItemFormed f) js
+  more_items : (is js : List (Item F G A)) (v : List (List ℕ)) (more : List (List (List ℕ))) → AllByRecursion (ItemFormed f) is → AllByRecursion (ItemFormed f) js
       → map (item_tokens f) js ≡ map (item_tokens f) is ++ v ∷ more → MoreItems is js v
   more_items [] [] v more u t e = let n : ◌≡◌ {A = ℕ} 0 1 = cc in absurd (omega arith)
   more_items [] (j ∷ js) v more u t e = record { next = j; others = js; are = refl; formed = t.0; tokens = cc }

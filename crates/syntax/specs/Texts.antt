@@ -1,6 +1,6 @@
 -- The text of a plan: its lines, the tokens of each, and their bytes.
 use Rattle.std.specs.Prelude.{◌≡◌, ℕ, ◌≤◌, ◌↔◌, List, [], ◌∷◌, ◌++◌, map, length, Some, None, Ok, codes, decimal, Option}
-use Rattle.std.specs.List.{flat_map, AllByRecursion as All}
+use Rattle.std.specs.List.{flat_map, AllByRecursion}
 use Rattle.model.specs.declared.Point.{Point}
 use Rattle.model.specs.Kind.{Kind}
 use Rattle.model.specs.Plan.{Plan, WellFormed}
@@ -70,7 +70,7 @@ module _ {F G A : Type 0} (f : Spelling F G A) where
     pub nodes : p.nodes ≤ largest
     pub states : p.states ≤ largest
     pub events : p.events ≤ largest
-    pub parts : All ItemFormed (items p)
+    pub parts : AllByRecursion ItemFormed (items p)
 
 module _ {F G A : Type 0} (k : Kind F G A) (f : Spelling F G A) where
   -- the bytes are a text of the plan
