@@ -1,8 +1,10 @@
+use words::WordSet;
+
 // What is asked of a word: every bit of `ones` is set, and no bit of `zeros`. A fact is a pattern for the datum.
 #[derive(Clone, Copy)]
 pub struct Pattern {
-    pub ones: u32,
-    pub zeros: u32,
+    pub ones: WordSet,
+    pub zeros: WordSet,
 }
 
 // Holds when store and datum match their patterns and the store has at least `least` bits set. In a text it is
@@ -17,6 +19,6 @@ pub struct Guard {
 // Sets the store's bits of `up`, then clears those of `down`.
 #[derive(Clone, Copy)]
 pub struct Action {
-    pub up: u32,
-    pub down: u32,
+    pub up: WordSet,
+    pub down: WordSet,
 }

@@ -5,10 +5,10 @@
 ghost use Rattle.std.specs.Prelude.{◌≡◌, refl};
 ghost use Rattle.approvals.specs.Approvals.{approvals, matches, contradictory, both, asks_nothing, implied_by};
 ghost use Rattle.approvals.specs.Cases.{WorkedCases};
-ghost use Rattle.approvals.specs.Spelled.{spelling, facts};
-ghost use Rattle.text.specs.Scan.{taken};
+ghost use Rattle.approvals.specs.Spelled.{spelling, facts, largest};
+ghost use Rattle.text.specs.Scan.{taken, one};
+ghost use Rattle.text.specs.Readers.{natural};
 ghost use Rattle.text.specs.Grammar.{take};
-ghost use Rattle.text.specs.Meaning.{scan_of};
 ghost use Rattle.approvals.specs.Laws;
 ghost use Rattle.approvals.specs.Laws.{stays, datums, empties, idles, rates};
 ghost use Rattle.approvals.specs.Readable.{facts_read, guards_read, actions_read};
@@ -16,6 +16,7 @@ ghost use Rattle.approvals.specs.Readable.{facts_read, guards_read, actions_read
 use kinds::{Kind, Spelling};
 use model::{Rating, Refusal};
 use text::Tokens;
+use words::WordSet;
 
 mod data;
 
@@ -29,17 +30,17 @@ const LARGEST: u32 = u32::MAX;
 
 impl Pattern {
     // Whether the word has all of the ones and none of the zeros.
-    fn matches(&self, word: u32) -> bool
+    fn matches(&self, word: WordSet) -> bool
         ensures { result ≡ matches self.now word }
     {
-        words::is_subset(self.ones, word) && words::is_disjoint(self.zeros, word)
+        self.ones.is_subset(word) && self.zeros.is_disjoint(word)
     }
 
     // Whether a bit is asked both ways, so that no word matches.
     fn is_contradictory(&self) -> bool
         ensures { result ≡ contradictory self.now }
     {
-        !words::is_disjoint(self.ones, self.zeros)
+        !self.ones.is_disjoint(self.zeros)
     }
 
     // What both patterns ask.
@@ -47,8 +48,8 @@ impl Pattern {
         ensures { result ≡ both a b }
     {
         Pattern {
-            ones: words::union(a.ones, b.ones),
-            zeros: words::union(a.zeros, b.zeros),
+            ones: a.ones.union(b.ones),
+            zeros: a.zeros.union(b.zeros),
         }
     }
 
@@ -56,14 +57,14 @@ impl Pattern {
     fn asks_nothing(&self) -> bool
         ensures { result ≡ asks_nothing self.now }
     {
-        words::is_empty(self.ones) && words::is_empty(self.zeros)
+        self.ones.is_empty() && self.zeros.is_empty()
     }
 
     // Whether the other asks all that this one does.
     fn is_implied_by(&self, other: Pattern) -> bool
         ensures { result ≡ implied_by self.now other }
     {
-        words::is_subset(self.ones, other.ones) && words::is_subset(self.zeros, other.zeros)
+        self.ones.is_subset(other.ones) && self.zeros.is_subset(other.zeros)
     }
 }
 
@@ -92,7 +93,7 @@ impl Kind for Approvals {
     }
 
     fn meets(fact: &Pattern, datum: u32) -> bool {
-        fact.matches(datum)
+        fact.matches(datum.into())
     }
 
     fn is_empty(fact: &Pattern) -> bool {
@@ -100,22 +101,24 @@ impl Kind for Approvals {
     }
 
     fn holds(guard: &Guard, store: u32, datum: u32) -> bool {
+        let store = WordSet::from(store);
         guard.store.matches(store)
-            && guard.least <= words::count(store)
-            && guard.datum.matches(datum)
+            && guard.least <= store.count()
+            && guard.datum.matches(datum.into())
     }
 
     fn makes(action: &Action, store: u32, _datum: u32) -> u32 {
-        words::difference(words::union(store, action.up), action.down)
+        let store = WordSet::from(store);
+        store.union(action.up).difference(action.down).into()
     }
 
     fn is_idle(action: &Action) -> bool {
-        words::is_empty(action.up) && words::is_empty(action.down)
+        action.up.is_empty() && action.down.is_empty()
     }
 
     fn rate(guard: &Guard, fact: &Pattern) -> Rating {
         if guard.store.is_contradictory()
-            || guard.least > 32 - words::count(guard.store.zeros)
+            || guard.least > 32 - guard.store.zeros.count()
             || Pattern::both(guard.datum, *fact).is_contradictory()
         {
             Rating::Never
@@ -130,18 +133,17 @@ impl Kind for Approvals {
     }
 }
 
-// The worked cases of the definitions hold.
+// The worked cases of the definitions hold. Each kind states cases of its own.
+#[tactic(auto, unfolding(words::specs::Sets::bits, words::specs::Sets::every, words::specs::Sets::count, words::specs::Sets::mask))]
 pub fn worked_cases()
     ensures { WorkedCases }
 {}
 
-// A pattern is spelled by its two masks.
-fn pattern(tokens: &mut Tokens<'_>) -> Result<Pattern, Refusal>
-    ensures { taken result (scan_of tokens.new) ≡ take facts.grammar (scan_of tokens.old) }
+// A mask is spelled by its number.
+fn mask(tokens: &mut Tokens<'_>) -> Result<WordSet, Refusal>
+    ensures { taken result tokens.new ≡ one (natural largest) tokens.old }
 {
-    let ones = tokens.natural(LARGEST)?;
-    let zeros = tokens.natural(LARGEST)?;
-    Ok(Pattern { ones, zeros })
+    Ok(WordSet::from(tokens.natural(LARGEST)?))
 }
 
 impl Spelling for Approvals {
@@ -154,13 +156,16 @@ impl Spelling for Approvals {
     }
 
     fn fact(tokens: &mut Tokens<'_>) -> Result<Pattern, Refusal> {
-        pattern(tokens)
+        let ones = mask(tokens)?;
+        let zeros = mask(tokens)?;
+        Ok(Pattern { ones, zeros })
     }
 
+    #[tactic(auto, using(crate::proofs::Guards::guard_by_parts))]
     fn guard(tokens: &mut Tokens<'_>) -> Result<Guard, Refusal> {
-        let store = pattern(tokens)?;
+        let store = Approvals::fact(tokens)?;
         let least = tokens.natural(32)?;
-        let datum = pattern(tokens)?;
+        let datum = Approvals::fact(tokens)?;
         Ok(Guard {
             store,
             least,
@@ -169,8 +174,8 @@ impl Spelling for Approvals {
     }
 
     fn action(tokens: &mut Tokens<'_>) -> Result<Action, Refusal> {
-        let up = tokens.natural(LARGEST)?;
-        let down = tokens.natural(LARGEST)?;
+        let up = mask(tokens)?;
+        let down = mask(tokens)?;
         Ok(Action { up, down })
     }
 }

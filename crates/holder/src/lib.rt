@@ -8,7 +8,6 @@ ghost use Rattle.holder.specs.Holder.{holder, largest, is_user, meets, empty};
 ghost use Rattle.holder.specs.Spelled.{spelling};
 ghost use Rattle.text.specs.Scan.{taken, one};
 ghost use Rattle.text.specs.Readers.{natural};
-ghost use Rattle.text.specs.Meaning.{scan_of};
 ghost use Rattle.holder.specs.Laws.{stores_fit, datums_fit, begins, stays, datums, empties, idles, rates};
 ghost use Rattle.holder.specs.Readable.{facts_read, guards_read, actions_read};
 
@@ -30,7 +29,7 @@ pub struct Holder;
 fn is_user(n: u32) -> bool
     ensures { result ≡ is_user n }
 {
-    1 <= n && n <= LARGEST
+    (1..=LARGEST).contains(&n)
 }
 
 impl Fact {
@@ -124,18 +123,20 @@ impl Kind for Holder {
     }
 }
 
-// The worked cases of the definitions hold.
+// The worked cases of the definitions hold. Each kind states cases of its own.
 pub fn worked_cases()
     ensures { WorkedCases }
 {}
 
 // The number of a user, or 0.
 fn user(tokens: &mut Tokens<'_>) -> Result<u16, Refusal>
-    ensures { taken result (scan_of tokens.new) ≡ one (natural largest) (scan_of tokens.old) }
+    ensures { taken result tokens.new ≡ one (natural largest) tokens.old }
 {
     Ok(tokens.natural(LARGEST)? as u16)
 }
 
+// Letters are matched against characters, as the format has them. A method of the cursor that is passed what each stands for
+// would have a premise, that it may be called.
 impl Spelling for Holder {
     ghost formats = { spelling };
 

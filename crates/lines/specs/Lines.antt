@@ -1,10 +1,11 @@
 -- The form of each line of a plan text, token by token.
-use Rattle.std.specs.Prelude.{ℕ, Bool, false, cond, List, Some, None, Ok, Err, codes, Option, Result, ◌==◌, nat_lt}
+use Rattle.std.specs.Prelude.{ℕ, Bool, false, cond, ◌&&◌, List, Some, None, Ok, Err, codes, Option, Result, ◌==◌, nat_le, nat_lt}
 use Rattle.model.specs.declared.Cause.{Cause}
 use Rattle.model.specs.declared.Cause.TheVariants.{Count, Name}
 use Rattle.model.specs.declared.Refusal.{Refusal}
 use Rattle.model.specs.Plan.{counts}
-use Rattle.text.specs.Scan.{Scan, start, Taken, took, refused, taken, then, one, close, place}
+use Rattle.model.specs.Refusals.{refused_at}
+use Rattle.text.specs.Scan.{Scan, start, Taken, took, refused, taken, then, one, close, position}
 use Rattle.text.specs.Readers.{natural, letter, optional, the_number, the_letter, exactly}
 use Rattle.text.specs.Grammar.{take}
 use Rattle.kinds.specs.Spelling.{Spelling}
@@ -14,15 +15,19 @@ use Rattle.lines.specs.declared.ArcLine.{ArcLine}
 use Rattle.lines.specs.declared.EdgeLine.{EdgeLine}
 
 abbrev pub numbered : Scan → ℕ → Named
-numbered s n = record { number = n; line = s.number; place = place s }
+numbered s n = record { number = n; position = position s }
 
--- a number with its place
+-- a number with its position
 abbrev pub named : Scan → Taken Named
 named s = then (one (natural 65535) s) (λ n z. took (numbered s n) z)
 
 -- the refusal of such a number
 abbrev pub at_name : Cause → Named → Refusal
-at_name c n = record { cause = c; line = n.line; place = n.place }
+at_name c n = refused_at c n.position
+
+-- such a number from low to below high
+abbrev pub in_range : ℕ → ℕ → Cause → Named → Result ℕ Refusal
+in_range low high c n = cond (nat_le low n.number && nat_lt n.number high) (Ok n.number) (Err (at_name c n))
 
 -- the number of one of `count` things
 abbrev pub within : ℕ → Named → Result ℕ Refusal
@@ -62,7 +67,7 @@ module _ {F G A : Type 0} (f : Spelling F G A) where
   -- the fact of an arc with an event, which stood at x
   abbrev pub point_line : Scan → Option ℕ → Scan → Taken (Option (PointLine F))
   point_line x None w = took None w
-  point_line x (Some v) w = then (take f.facts.grammar w) (λ t u. took (Some (record { event = numbered x v; fact = t; place = place w })) u)
+  point_line x (Some v) w = then (take f.facts.grammar w) (λ t u. took (Some (record { event = numbered x v; fact = t; position = position w })) u)
 
   -- event fact, or -
   abbrev pub event_line : Scan → Taken (Option (PointLine F))

@@ -2,7 +2,6 @@
 ghost use Rattle.std.specs.Prelude.{◌≡◌, true, IfOk};
 ghost use Rattle.model.specs.Plan.{counts};
 ghost use Rattle.text.specs.Scan.{taken};
-ghost use Rattle.text.specs.Meaning.{scan_of};
 ghost use Rattle.lines.specs.Lines.{named, opening, kind_letter, names_kind, count_line, event_line, arc_line, edge_line};
 
 use crate::{ArcLine, EdgeLine, Named, PointLine};
@@ -15,21 +14,16 @@ const LARGEST: u32 = 65535;
 
 // A number with its place.
 pub fn read_named(tokens: &mut Tokens<'_>) -> Result<Named, Refusal>
-    ensures { taken result (scan_of tokens.new) ≡ named (scan_of tokens.old) }
+    ensures { taken result tokens.new ≡ named tokens.old }
 {
-    let line = tokens.line();
-    let place = tokens.place();
+    let position = tokens.position();
     let number = tokens.natural(LARGEST)?;
-    Ok(Named {
-        number,
-        line,
-        place,
-    })
+    Ok(Named { number, position })
 }
 
 // The first line, with its end.
 pub fn read_opening<K: Spelling>(tokens: &mut Tokens<'_>) -> Result<(), Refusal>
-    ensures { taken result (scan_of tokens.new) ≡ opening K.Spelling.formats (scan_of tokens.old) }
+    ensures { taken result tokens.new ≡ opening K.Spelling.formats tokens.old }
 {
     tokens.keyword(b"plan")?;
     tokens.only_number(1)?;
@@ -51,34 +45,34 @@ fn kind_letter(text: &[u8]) -> Option<char>
 pub fn names_kind<K: Spelling>(text: &[u8]) -> bool
     ensures { result ≡ names_kind K.Spelling.formats text.now }
 {
-    match kind_letter(text) {
-        Some(letter) => letter == K::letter(),
-        None => false,
-    }
+    kind_letter(text) == Some(K::letter())
 }
 
 // The event and the fact of an arc, or none.
 fn read_point<K: Spelling>(tokens: &mut Tokens<'_>) -> Result<Option<PointLine<K::Fact>>, Refusal>
-    ensures { taken result (scan_of tokens.new) ≡ event_line K.Spelling.formats (scan_of tokens.old) }
+    ensures { taken result tokens.new ≡ event_line K.Spelling.formats tokens.old }
 {
-    let line = tokens.line();
-    let event_place = tokens.place();
+    let start = tokens.position();
     let Some(number) = tokens.optional(LARGEST)? else {
+        // an arc without event; `map` and `transpose` would put the rest into a closure
         return Ok(None);
     };
-    let place = tokens.place();
-    let fact = K::fact(tokens)?;
     let event = Named {
         number,
-        line,
-        place: event_place,
+        position: start,
     };
-    Ok(Some(PointLine { event, fact, place }))
+    let position = tokens.position();
+    let fact = K::fact(tokens)?;
+    Ok(Some(PointLine {
+        event,
+        fact,
+        position,
+    }))
 }
 
 // An arc's line after its letter, up to its end.
 pub fn read_arc<K: Spelling>(tokens: &mut Tokens<'_>) -> Result<ArcLine<K::Fact>, Refusal>
-    ensures { taken result (scan_of tokens.new) ≡ arc_line K.Spelling.formats (scan_of tokens.old) }
+    ensures { taken result tokens.new ≡ arc_line K.Spelling.formats tokens.old }
 {
     let from = read_named(tokens)?;
     let to = read_named(tokens)?;
@@ -90,7 +84,7 @@ pub fn read_arc<K: Spelling>(tokens: &mut Tokens<'_>) -> Result<ArcLine<K::Fact>
 pub fn read_edge<K: Spelling>(
     tokens: &mut Tokens<'_>,
 ) -> Result<EdgeLine<K::Guard, K::Action>, Refusal>
-    ensures { taken result (scan_of tokens.new) ≡ edge_line K.Spelling.formats (scan_of tokens.old) }
+    ensures { taken result tokens.new ≡ edge_line K.Spelling.formats tokens.old }
 {
     let from = read_named(tokens)?;
     let event = read_named(tokens)?;
@@ -108,7 +102,7 @@ pub fn read_edge<K: Spelling>(
 
 // A line of a letter and a count, with its end.
 pub fn read_count(tokens: &mut Tokens<'_>, letter: char, most: u8) -> Result<u8, Refusal>
-    ensures value { taken result (scan_of tokens.new) ≡ count_line letter most (scan_of tokens.old) }
+    ensures value { taken result tokens.new ≡ count_line letter most tokens.old }
     ensures range { IfOk result (λ n. counts most n ≡ true) }
 {
     tokens.only_letter(letter)?;

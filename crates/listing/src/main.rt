@@ -21,7 +21,7 @@ fn input(rt: &HostRuntime) -> io::Result<Vec<u8>> {
     Ok(text)
 }
 
-fn list<K: Spelling>(rt: &HostRuntime, text: &[u8]) -> anyhow::Result<()> {
+fn list<K: Spelling>(rt: &(impl Print + AllocGlobal), text: &[u8]) -> anyhow::Result<()> {
     let heap = rt.alloc();
     let mut plan: Plan<K> = Plan::new(heap);
     match plan.read(heap, text) {
@@ -37,6 +37,7 @@ fn list<K: Spelling>(rt: &HostRuntime, text: &[u8]) -> anyhow::Result<()> {
     }
 }
 
+// Each kind is a type argument; a table of functions or a `dyn` over kinds would be no plainer.
 fn run(rt: &HostRuntime) -> anyhow::Result<()> {
     let text = input(rt)?;
     let text = text.as_slice();

@@ -1,5 +1,5 @@
 -- A plan: one chart and one watch.
-use Rattle.std.specs.Prelude.{◌≡◌, ℕ, Bool, true, not, ◌&&◌, ltb, List, [], ◌∷◌, length, Some, None, Option, nat_le, nat_lt}
+use Rattle.std.specs.Prelude.{◌≡◌, ℕ, Bool, true, not, ◌&&◌, List, [], ◌∷◌, length, Some, None, Option, nat_le, nat_lt}
 use Rattle.std.specs.List.{list_all}
 use Rattle.model.specs.declared.Point.{Point}
 use Rattle.model.specs.declared.Arc.{Arc}
@@ -29,7 +29,7 @@ rises b [] = true
 rises b (q ∷ qs) = nat_lt b q && rises q qs
 
 abbrev pub bad_in : ℕ → List ℕ → Bool
-bad_in states bad = rises 0 bad && list_all (λ q. ltb q states) bad
+bad_in states bad = rises 0 bad && list_all (λ q. nat_lt q states) bad
 
 module _ {F : Type 0} (nodes events : ℕ) where
   abbrev pub point_in : Option (Point F) → Bool

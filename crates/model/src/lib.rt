@@ -3,7 +3,7 @@
 #![tactic(auto)]
 
 ghost use Rattle.std.specs.Prelude.{◌≡◌, Some};
-ghost use Rattle.model.specs.Refusals.{number_of, refusal_text};
+ghost use Rattle.model.specs.Refusals.{number_of, refused_at, refusal_text};
 
 use std::fmt;
 
@@ -42,39 +42,51 @@ pub struct Edge<G, A> {
     pub action: A,
 }
 
-// Why a plan text is refused.
+// Why a plan text is refused, with the number of that refusal.
 #[derive(Clone, Copy)]
 pub enum Cause {
     // the text is too long
-    Length,
+    Length = 1,
     // a token or a line breaks the form
-    Form,
+    Form = 2,
     // a count is out of its range, or an arc or an edge is one too many
-    Count,
+    Count = 3,
     // a node, a state or an event is not in the plan, or a bad state is 0 or does not rise
-    Name,
+    Name = 4,
     // no datum meets the fact
-    Empty,
+    Empty = 5,
 }
 
-// A refused text: why, at which line (from 1), and at which place (bytes from 0).
+// Where something stands in a text: at which line (from 1), and at which place (bytes from 0).
+#[derive(Clone, Copy)]
+pub struct Position {
+    pub line: usize,
+    pub place: usize,
+}
+
+// A refused text: why, and where.
 #[derive(Clone, Copy)]
 pub struct Refusal {
     pub cause: Cause,
-    pub line: usize,
-    pub place: usize,
+    pub position: Position,
 }
 
 impl Cause {
     pub fn number(self) -> u8
         ensures { result ≡ number_of self }
     {
-        match self {
-            Cause::Length => 1,
-            Cause::Form => 2,
-            Cause::Count => 3,
-            Cause::Name => 4,
-            Cause::Empty => 5,
+        self as u8
+    }
+}
+
+impl Position {
+    // The refusal of what stands there.
+    pub fn refused(self, cause: Cause) -> Refusal
+        ensures { result ≡ refused_at cause self }
+    {
+        Refusal {
+            cause,
+            position: self,
         }
     }
 }
@@ -84,8 +96,7 @@ impl fmt::Display for Refusal {
 
     fn fmt<W: fmt::Write>(&self, f: &mut fmt::Formatter<W>) -> fmt::Result {
         let number = self.cause.number();
-        let line = self.line;
-        let place = self.place;
+        let Position { line, place } = self.position;
         write!(f, "refused {number} line {line} at {place}")
     }
 }

@@ -1,3 +1,2 @@
 pub mod Meaning
-pub mod Items
-pub mod Reading
+pub mod Results

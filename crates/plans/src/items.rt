@@ -1,37 +1,30 @@
 // What the lines of a plan text may name, and what they add to a plan.
 ghost use Rattle.std.specs.Prelude.{◌≡◌};
 ghost use Rattle.text.specs.Scan.{taken};
-ghost use Rattle.text.specs.Meaning.{scan_of};
 ghost use Rattle.plans.specs.Meaning.{plan_of};
-ghost use Rattle.plans.specs.Items.{last, bad_of, point_of, arc_of, edge_of, bad_item, arc_item, edge_item, item};
+ghost use Rattle.syntax.specs.Items.{bad_of, point_of, arc_of, edge_of, bad_item, arc_item, edge_item, item};
 
-use crate::item::Item;
 use crate::plan::Plan;
-use kinds::Spelling;
+use kinds::{Kind, Spelling};
 use lines::{ArcLine, EdgeLine, Named, PointLine, read_arc, read_edge, read_named};
 use model::{Arc, Cause, Edge, Point, Refusal};
+use syntax::Item;
 use text::Tokens;
 
 const MOST_ARCS: usize = 512;
 
 const MOST_EDGES: usize = 256;
 
-// The last of some bad states, or 0.
-fn last_of(states: &[u8]) -> u8
-    ensures { result ≡ last 0 states.now }
-{
-    match states.last() {
-        Some(state) => *state,
-        None => 0,
-    }
-}
+// What a line adds to a plan of the kind.
+pub(crate) type ItemOf<K> = Item<<K as Kind>::Fact, <K as Kind>::Guard, <K as Kind>::Action>;
 
 impl<K: Spelling> Plan<K> {
     // A bad state is above the one before it, and so never 0.
     fn bad_of(&self, state: Named) -> Result<u8, Refusal>
         ensures { result ≡ bad_of (plan_of self.now) state }
     {
-        if u32::from(last_of(self.bad.as_slice())) < state.number {
+        let last = self.bad.last().copied().unwrap_or(0);
+        if u32::from(last) < state.number {
             state.within(self.states)
         } else {
             Err(state.refused(Cause::Name))
@@ -41,16 +34,13 @@ impl<K: Spelling> Plan<K> {
     fn point_of(&self, point: Option<PointLine<K::Fact>>) -> Result<Option<Point<K::Fact>>, Refusal>
         ensures { result ≡ point_of K.Kind.answers (plan_of self.now) point }
     {
+        // `map` and `transpose` would put the rest into a closure
         let Some(line) = point else {
             return Ok(None);
         };
         let event = line.event.within(self.events)?;
         if K::is_empty(&line.fact) {
-            return Err(Refusal {
-                cause: Cause::Empty,
-                line: line.event.line,
-                place: line.place,
-            });
+            return Err(line.position.refused(Cause::Empty));
         }
         Ok(Some(Point {
             event,
@@ -85,23 +75,18 @@ impl<K: Spelling> Plan<K> {
         })
     }
 
-    fn bad_item(
-        &self,
-        tokens: &mut Tokens<'_>,
-    ) -> Result<Item<K::Fact, K::Guard, K::Action>, Refusal>
-        ensures { taken result (scan_of tokens.new) ≡ bad_item (plan_of self.now) (scan_of tokens.old) }
+    fn bad_item(&self, tokens: &mut Tokens<'_>) -> Result<ItemOf<K>, Refusal>
+        ensures { taken result tokens.new ≡ bad_item (plan_of self.now) tokens.old }
     {
         let state = read_named(tokens)?;
         tokens.end_line()?;
         Ok(Item::Bad(self.bad_of(state)?))
     }
 
-    fn arc_item(
-        &self,
-        tokens: &mut Tokens<'_>,
-        full: Refusal,
-    ) -> Result<Item<K::Fact, K::Guard, K::Action>, Refusal>
-        ensures { taken result (scan_of tokens.new) ≡ arc_item K.Kind.answers K.Spelling.formats (plan_of self.now) full (scan_of tokens.old) }
+    // Arcs and edges are read alike, but by functions, a list and a limit of their own: one function for both would take
+    // all of those as parameters.
+    fn arc_item(&self, tokens: &mut Tokens<'_>, full: Refusal) -> Result<ItemOf<K>, Refusal>
+        ensures { taken result tokens.new ≡ arc_item K.Kind.answers K.Spelling.formats (plan_of self.now) full tokens.old }
     {
         let line = read_arc::<K>(tokens)?;
         tokens.end_line()?;
@@ -111,12 +96,8 @@ impl<K: Spelling> Plan<K> {
         Ok(Item::Arc(self.arc_of(line)?))
     }
 
-    fn edge_item(
-        &self,
-        tokens: &mut Tokens<'_>,
-        full: Refusal,
-    ) -> Result<Item<K::Fact, K::Guard, K::Action>, Refusal>
-        ensures { taken result (scan_of tokens.new) ≡ edge_item K.Kind.answers K.Spelling.formats (plan_of self.now) full (scan_of tokens.old) }
+    fn edge_item(&self, tokens: &mut Tokens<'_>, full: Refusal) -> Result<ItemOf<K>, Refusal>
+        ensures { taken result tokens.new ≡ edge_item K.Kind.answers K.Spelling.formats (plan_of self.now) full tokens.old }
     {
         let line = read_edge::<K>(tokens)?;
         tokens.end_line()?;
@@ -126,19 +107,12 @@ impl<K: Spelling> Plan<K> {
         Ok(Item::Edge(self.edge_of(line)?))
     }
 
-    // What the next line adds, by its letter.
-    pub(crate) fn read_item(
-        &self,
-        tokens: &mut Tokens<'_>,
-    ) -> Result<Item<K::Fact, K::Guard, K::Action>, Refusal>
-        ensures { taken result (scan_of tokens.new) ≡ item K.Kind.answers K.Spelling.formats (plan_of self.now) (scan_of tokens.old) }
+    // What the next line adds. Its letter says what it is, as the format has it, and so picks the reader.
+    pub(crate) fn read_item(&self, tokens: &mut Tokens<'_>) -> Result<ItemOf<K>, Refusal>
+        ensures { taken result tokens.new ≡ item K.Kind.answers K.Spelling.formats (plan_of self.now) tokens.old }
     {
         let broken = tokens.broken();
-        let full = Refusal {
-            cause: Cause::Count,
-            line: broken.line,
-            place: broken.place,
-        };
+        let full = broken.position.refused(Cause::Count);
         match tokens.letter()? {
             'b' if self.arcs.is_empty() && self.edges.is_empty() => self.bad_item(tokens),
             'a' if self.edges.is_empty() => self.arc_item(tokens, full),

@@ -2,7 +2,6 @@
 #![tactic(auto)]
 
 mod error;
-mod item;
 mod items;
 mod methods;
 mod plan;

@@ -1,32 +1,29 @@
-ghost use Rattle.std.specs.Prelude.{◌≡◌, ◌<◌, length};
-ghost use Rattle.plans.specs.Meaning.{plan_of, blank, points_in};
+ghost use Rattle.std.specs.Prelude.{◌≡◌, true, length};
+ghost use Rattle.model.specs.Plan.{sizes_in};
+ghost use Rattle.syntax.specs.Items.{blank};
+ghost use Rattle.plans.specs.Meaning.{plan_of, points_in};
 
 use crate::plan::Plan;
 use kinds::Kind;
-use model::Arc;
 use std::alloc::Global;
-
-fn count_points<F>(arcs: &[Arc<F>]) -> usize
-    ensures { result ≡ points_in arcs.now }
-{
-    let mut points = 0;
-    for arc in arcs {
-        if arc.point.is_some() {
-            points += 1;
-        }
-    }
-    points
-}
 
 impl<K: Kind> Plan<K> {
     // A plan with one node, one state, one event and nothing else.
     pub fn new(heap: Global) -> Plan<K>
         ensures { plan_of result ≡ blank 1 1 1 }
     {
+        Plan::blank(heap, 1, 1, 1)
+    }
+
+    // A plan of that size, and nothing else.
+    pub(crate) fn blank(heap: Global, nodes: u8, states: u8, events: u8) -> Plan<K>
+        requires { sizes_in nodes states events ≡ true }
+        ensures { plan_of result ≡ blank nodes states events }
+    {
         Plan {
-            nodes: 1,
-            states: 1,
-            events: 1,
+            nodes,
+            states,
+            events,
             bad: Vec::new(heap),
             arcs: Vec::new(heap),
             edges: Vec::new(heap),
@@ -37,7 +34,7 @@ impl<K: Kind> Plan<K> {
     pub fn point_count(&self) -> usize
         ensures { result ≡ points_in (plan_of self.now).arcs }
     {
-        count_points(self.arcs.as_slice())
+        self.arcs.iter().filter(|arc| arc.point.is_some()).count()
     }
 
     // How many edges the plan has.

@@ -1,10 +1,10 @@
-ghost use Rattle.std.specs.Prelude.{◌≡◌, true};
-ghost use Rattle.model.specs.Plan.{sizes_in, bad_in, arcs_in, edges_in};
+ghost use Rattle.model.specs.Plan.{WellFormed};
 
 use kinds::Kind;
 use model::{Arc, Edge};
 
-// One chart and one watch, over a kind of guard.
+// One chart and one watch, over a kind of guard. Each is well formed. It has no Model: clauses would see the lists alone,
+// and could no longer say that a refused text leaves each vector as it was.
 #[derive(Drop)]
 pub struct Plan<K: Kind> {
     pub(crate) nodes: u8,
@@ -13,8 +13,5 @@ pub struct Plan<K: Kind> {
     pub(crate) bad: Vec<u8>,
     pub(crate) arcs: Vec<Arc<K::Fact>>,
     pub(crate) edges: Vec<Edge<K::Guard, K::Action>>,
-    ghost sizes: { sizes_in nodes states events ≡ true },
-    ghost bad_states: { bad_in states bad.items ≡ true },
-    ghost own_arcs: { arcs_in nodes events arcs.items ≡ true },
-    ghost own_edges: { edges_in states events edges.items ≡ true },
+    ghost well_formed: { WellFormed K.answers (record { nodes = nodes; states = states; events = events; bad = bad.items; arcs = arcs.items; edges = edges.items }) },
 }

@@ -1,19 +1,20 @@
 // The reading of a whole plan text.
-ghost use Rattle.std.specs.Prelude.{◌≡◌, IfOk, OnOk};
+ghost use Rattle.std.specs.Prelude.{◌≡◌, OnOk};
 ghost use Rattle.model.specs.Plan.{WellFormed};
 ghost use Rattle.text.specs.Scan.{taken};
-ghost use Rattle.text.specs.Meaning.{scan_of};
+ghost use Rattle.syntax.specs.Items.{added};
+ghost use Rattle.syntax.specs.Reading.{header, reading, too_long, WantsMemory};
 ghost use Rattle.plans.specs.Meaning.{plan_of};
-ghost use Rattle.plans.specs.Items.{added, Fits};
-ghost use Rattle.plans.specs.Reading.{header, reading, too_long, WantsMemory, meant, Reads, Replaced, Grown};
+ghost use Rattle.plans.specs.Results.{meant, Reads, Replaced, Grown};
 
 use crate::error::ReadError;
-use crate::item::Item;
+use crate::items::ItemOf;
 use crate::plan::Plan;
 use kinds::Spelling;
 use lines::{read_count, read_opening};
-use model::{Cause, Refusal};
+use model::{Cause, Position, Refusal};
 use std::alloc::Global;
+use syntax::Item;
 use text::Tokens;
 
 // A plan text has at most so many bytes.
@@ -28,35 +29,25 @@ const MOST_EVENTS: u8 = 32;
 fn too_long() -> Refusal
     ensures { result ≡ too_long }
 {
-    Refusal {
-        cause: Cause::Length,
-        line: 0,
-        place: 0,
-    }
+    let nowhere = Position { line: 0, place: 0 };
+    nowhere.refused(Cause::Length)
 }
 
 impl<K: Spelling> Plan<K> {
     // The four opening lines.
     fn read_header(heap: Global, tokens: &mut Tokens<'_>) -> Result<Plan<K>, Refusal>
-        ensures { taken (meant result) (scan_of tokens.new) ≡ header K.Spelling.formats (scan_of tokens.old) }
+        ensures { taken (meant result) tokens.new ≡ header K.Spelling.formats tokens.old }
     {
         read_opening::<K>(tokens)?;
         let nodes = read_count(tokens, 'n', MOST_NODES)?;
         let states = read_count(tokens, 's', MOST_STATES)?;
         let events = read_count(tokens, 'v', MOST_EVENTS)?;
-        Ok(Plan {
-            nodes,
-            states,
-            events,
-            bad: Vec::new(heap),
-            arcs: Vec::new(heap),
-            edges: Vec::new(heap),
-        })
+        Ok(Plan::blank(heap, nodes, states, events))
     }
 
     // Adds what a line gives.
-    fn add(&mut self, item: Item<K::Fact, K::Guard, K::Action>) -> Result<(), ReadError>
-        requires { Fits (plan_of self.old) item }
+    fn add(&mut self, item: ItemOf<K>) -> Result<(), ReadError>
+        requires { WellFormed K.Kind.answers (added (plan_of self.old) item) }
         ensures { Grown (added (plan_of self.old) item) result self.new }
     {
         match item {
@@ -69,8 +60,7 @@ impl<K: Spelling> Plan<K> {
 
     // The plan that the text spells.
     fn read_whole(heap: Global, text: &[u8]) -> Result<Plan<K>, ReadError>
-        ensures well { IfOk result (λ p. WellFormed K.Kind.answers (plan_of p)) }
-        ensures reads { Reads (reading K.Kind.answers K.Spelling.formats text.now) (WantsMemory K.Kind.answers K.Spelling.formats text.now) result }
+        ensures { Reads (reading K.Kind.answers K.Spelling.formats text.now) (WantsMemory K.Kind.answers K.Spelling.formats text.now) result }
     {
         if text.len() > MOST_BYTES {
             return Err(ReadError::Refused(too_long()));

@@ -5,14 +5,15 @@
 
 mod notation;
 
-use anyhow::anyhow;
+use anyhow::Context;
 use approvals::Approvals;
 use holder::Holder;
-use kinds::{Kind, Spelling};
+use kinds::Spelling;
 use notation::expand;
 use plans::{Plan, ReadError};
 use std::alloc::{AllocError, Global};
 use std::fs;
+use std::rt::Files;
 use tally::Tally;
 
 // What came of a text, as the table writes it.
@@ -29,14 +30,10 @@ fn result_of<K: Spelling>(heap: Global, text: &[u8]) -> Result<String, AllocErro
     }
 }
 
-fn are_same(a: &str, b: &str) -> bool {
-    a == b
-}
-
 // Prints what came of a text; whether it is what the table says.
-fn report(rt: &HostRuntime, name: &str, res: &str, expected: &str) -> anyhow::Result<bool> {
-    println!(rt; "{name}: {res}")?;
-    if are_same(res, expected) {
+fn report(rt: &impl Print, name: &str, outcome: &str, expected: &str) -> anyhow::Result<bool> {
+    println!(rt; "{name}: {outcome}")?;
+    if outcome == expected {
         return Ok(true);
     }
     println!(rt; "WRONG, should be {expected}")?;
@@ -44,21 +41,25 @@ fn report(rt: &HostRuntime, name: &str, res: &str, expected: &str) -> anyhow::Re
 }
 
 // Tries one line of the table; whether it holds.
-fn try_line<K: Spelling>(rt: &HostRuntime, line: &str) -> anyhow::Result<bool> {
-    let Some((name, rest)) = line.split_once(" | ") else {
-        return Err(anyhow!("a line of the table has no name"));
-    };
-    let Some((text, expected)) = rest.split_once(" | ") else {
-        return Err(anyhow!("a line of the table has no result"));
-    };
+fn try_line<K: Spelling>(rt: &(impl Print + AllocGlobal), line: &str) -> anyhow::Result<bool> {
+    let (name, rest) = line
+        .split_once(" | ")
+        .context("a line of the table has no name")?;
+    let (text, expected) = rest
+        .split_once(" | ")
+        .context("a line of the table has no result")?;
     let heap = rt.alloc();
     let bytes = expand(heap, text.as_bytes())?;
     let result = result_of::<K>(heap, bytes.as_slice())?;
     report(rt, name, result.as_str(), expected)
 }
 
-fn try_table<K: Spelling>(rt: &HostRuntime, path: &str) -> anyhow::Result<()> {
+fn try_table<K: Spelling>(
+    rt: &(impl Print + Files + AllocGlobal),
+    path: &str,
+) -> anyhow::Result<()> {
     let table = fs::read_to_string(rt, path)?;
+    // two counts and an early end by `?`: `try_fold` would be no plainer
     let mut tried: u32 = 0;
     let mut wrong: u32 = 0;
     for line in table.as_str().lines() {
@@ -74,7 +75,7 @@ fn try_table<K: Spelling>(rt: &HostRuntime, path: &str) -> anyhow::Result<()> {
     Ok(())
 }
 
-fn run(rt: &HostRuntime) -> anyhow::Result<()> {
+fn run(rt: &(impl Print + Files + AllocGlobal)) -> anyhow::Result<()> {
     try_table::<Tally>(rt, "tally.table")?;
     try_table::<Holder>(rt, "holder.table")?;
     try_table::<Approvals>(rt, "approvals.table")

@@ -1,129 +1,111 @@
 // The notation of the texts in a table.
-ghost use Rattle.std.specs.Prelude.{◌+◌, ◌<◌, ◌≤◌, T, length, IfSome};
+ghost use Rattle.std.specs.Prelude.{◌<◌, ◌≤◌, length, IfSome};
 
-use anyhow::anyhow;
+use anyhow::Context;
 use std::alloc::Global;
 
-fn hex(b: u8) -> Option<u8>
-    ensures { IfSome result (λ n. n < 16) }
+// A digit in base sixteen, in lower case alone, which `to_digit` does not ask for.
+fn hex_digit(byte: u8) -> Option<u8>
+    ensures { IfSome result (λ digit. digit < 16) }
 {
-    match b {
-        b'0'..=b'9' => Some(b - b'0'),
-        b'a'..=b'f' => Some(b - b'a' + 10),
+    match byte {
+        b'0'..=b'9' => Some(byte - b'0'),
+        b'a'..=b'f' => Some(byte - b'a' + 10),
         _ => None,
     }
 }
 
-// The byte that two digits in base sixteen write.
-fn hex_pair(high: u8, low: u8) -> Option<u8> {
-    Some(hex(high)? * 16 + hex(low)?)
-}
-
-// The byte that is written at `at`, and the place after it.
-fn byte_at(notation: &[u8], at: usize) -> Option<(u8, usize)>
-    requires { at < length notation.now }
-    ensures { IfSome result (λ p. (at < p.1) × (p.1 ≤ length notation.now)) }
+// The byte that a piece begins with, and the piece after it.
+fn split_byte(piece: &[u8]) -> Option<(u8, &[u8])>
+    ensures { IfSome result (λ split. length split.1.now < length piece.now) }
 {
-    if notation[at] != b'\\' {
-        return Some((notation[at], at + 1));
+    match piece {
+        [b'\\', b'n', rest @ ..] => Some((b'\n', rest)),
+        [b'\\', b'r', rest @ ..] => Some((b'\r', rest)),
+        [b'\\', b't', rest @ ..] => Some((b'\t', rest)),
+        [b'\\', b'x', high, low, rest @ ..] => {
+            Some((hex_digit(*high)? * 16 + hex_digit(*low)?, rest))
+        }
+        [b'\\', ..] | [] => None,
+        [byte, rest @ ..] => Some((*byte, rest)),
     }
-    if notation.len() - at < 2 {
-        return None;
-    }
-    match notation[at + 1] {
-        b'n' => Some((b'\n', at + 2)),
-        b'r' => Some((b'\r', at + 2)),
-        b't' => Some((b'\t', at + 2)),
-        b'x' if notation.len() - at >= 4 => Some((
-            hex_pair(notation[at + 2], notation[at + 3])?,
-            at + 4,
-        )),
-        _ => None,
-    }
-}
-
-// Whether a backslash and the mark stand at `at`.
-fn starts_at(notation: &[u8], at: usize, mark: u8) -> bool
-    ensures { T result → at + 2 ≤ length notation.now }
-{
-    at < notation.len()
-        && notation.len() - at >= 2
-        && notation[at] == b'\\'
-        && notation[at + 1] == mark
 }
 
 // Adds the bytes that a notation without repeats writes.
-fn add_piece(out: &mut Vec<u8>, notation: &[u8]) -> anyhow::Result<()> {
-    let mut at = 0;
-    while at < notation.len() {
-        let Some((byte, next)) = byte_at(notation, at) else {
-            return Err(anyhow!("the table has a byte that is not in its notation"));
-        };
+fn add_piece(out: &mut Vec<u8>, piece: &[u8]) -> anyhow::Result<()> {
+    let mut rest = piece;
+    while !rest.is_empty() {
+        let (byte, after) = split_byte(rest).context(
+            "the table has a byte that is not in its notation",
+        )?;
         out.push(byte)?;
-        at = next;
+        rest = after;
     }
     Ok(())
 }
 
-fn add_repeated(out: &mut Vec<u8>, notation: &[u8], times: u32) -> anyhow::Result<()> {
-    for _ in 0..times {
-        add_piece(out, notation)?;
-    }
-    Ok(())
+// What stands before and after the first such mark. Over bytes, unlike `split_once`, as a repeat passes over one byte after
+// its number, whatever that is.
+fn split_at_mark<'a>(notation: &'a [u8], mark: &[u8; 2]) -> Option<(&'a [u8], &'a [u8])>
+    ensures { IfSome result (λ split. length split.1.now < length notation.now) }
+{
+    let place = notation
+        .windows(mark.len())
+        .position(|pair| pair == mark.as_slice())?;
+    Some((&notation[..place], &notation[place + mark.len()..]))
 }
 
-// The place of the mark that closes a repeat, or the end.
-fn closing(notation: &[u8], from: usize) -> usize
-    requires { from ≤ length notation.now }
-    ensures { (from ≤ result) × (result ≤ length notation.now) }
+// The number that a notation begins with, which is 0 where there is none, and the notation after it. A number that is too
+// large stays at the largest, which `parse` does not give.
+fn split_number(notation: &[u8]) -> (u32, &[u8])
+    ensures { length result.1.now ≤ length notation.now }
 {
-    let mut at = from;
-    while at < notation.len() && !starts_at(notation, at, b'}') {
-        at += 1;
-    }
-    at
-}
-
-// How often a piece is repeated, and the place of the piece after the number and its space.
-fn times_at(notation: &[u8], from: usize) -> (u32, usize)
-    requires { from ≤ length notation.now }
-    ensures { (from ≤ result.1) × (result.1 ≤ length notation.now) }
-{
-    let mut times: u32 = 0;
-    let mut at = from;
-    while at < notation.len() && notation[at].is_ascii_digit() {
-        times = times
+    let mut number: u32 = 0;
+    let mut rest = notation;
+    while let [digit @ b'0'..=b'9', after @ ..] = rest {
+        number = number
             .saturating_mul(10)
-            .saturating_add(u32::from(notation[at] - b'0'));
-        at += 1;
+            .saturating_add(u32::from(*digit - b'0'));
+        rest = after;
     }
-    if at < notation.len() {
-        (times, at + 1)
-    } else {
-        (times, at)
-    }
+    (number, rest)
 }
 
-// The bytes that a notation writes.
+// A piece that is written several times, and the notation after it.
+#[derive(Drop)]
+struct Repeat<'a> {
+    times: u32,
+    piece: &'a [u8],
+    rest: &'a [u8],
+}
+
+// Reads what follows the opening mark of a repeat.
+fn split_repeat(notation: &[u8]) -> Option<Repeat<'_>>
+    ensures { IfSome result (λ repeat. length repeat.rest.now ≤ length notation.now) }
+{
+    let (times, rest) = split_number(notation);
+    if times == 0 {
+        return None;
+    }
+    let (_space, rest) = rest.split_first()?;
+    let (piece, rest) = split_at_mark(rest, b"\\}")?;
+    Some(Repeat { times, piece, rest })
+}
+
+// The bytes that a notation writes. No escape has a second backslash, so the first `\{` opens a repeat.
 pub(crate) fn expand(heap: Global, notation: &[u8]) -> anyhow::Result<Vec<u8>> {
     let mut out = Vec::new(heap);
-    let mut at = 0;
-    while at < notation.len() {
-        if starts_at(notation, at, b'{') {
-            let (times, piece) = times_at(notation, at + 2);
-            let end = closing(notation, piece);
-            if times == 0 || end == notation.len() {
-                return Err(anyhow!("the table has a repeat without its number or its end"));
-            }
-            add_repeated(&mut out, &notation[piece..end], times)?;
-            at = notation.len().min(end + 2);
-        } else {
-            let Some((byte, next)) = byte_at(notation, at) else {
-                return Err(anyhow!("the table has a byte that is not in its notation"));
-            };
-            out.push(byte)?;
-            at = next;
+    let mut rest = notation;
+    while let Some((piece, after)) = split_at_mark(rest, b"\\{") {
+        add_piece(&mut out, piece)?;
+        let repeat = split_repeat(after).context(
+            "the table has a repeat without its number or its end",
+        )?;
+        for _ in 0..repeat.times {
+            add_piece(&mut out, repeat.piece)?;
         }
+        rest = repeat.rest;
     }
+    add_piece(&mut out, rest)?;
     Ok(out)
 }

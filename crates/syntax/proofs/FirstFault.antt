@@ -72,7 +72,7 @@ module _ {F G A : Type 0} (k : Kind F G A) (f : Spelling F G A) (readable : Read
     number : s.number ≡ suc (length ls)
     number = ap (λ (a : Scan). a.number) reached.at ∙ number_is true (suc (length ls)) (length (flat_map line ls)) reached.rest
 
-    line_is : r.line ≡ suc (length ls)
+    line_is : r.position.line ≡ suc (length ls)
     line_is = reads.there.0 ∙ number
 
     fine : Begins k f 5 (length ls) bytes
@@ -83,7 +83,7 @@ module _ {F G A : Type 0} (k : Kind F G A) (f : Spelling F G A) (readable : Read
     refused_by x z h = by (wrong x) (reads.back x z h)
       where
         by : (o : Option Cause) → Answers make Good tokens wrong x z o (refused r) → o ≡ Some r.cause
-        by None e = let i : ◌≡◌ {A = ℕ} 0 1 = cc in absurd (omega arith)
+        by None e = cc
         by (Some d) (u, e, is) = ap Some (sym is ∙ ap (λ (a : Refusal). a.cause) (sym (refused_same e)))
 
     fails : (c : ℕ) → number_of r.cause ≡ c → 2 ≤ c → Begins k f c (suc (length ls)) bytes → ⊥
@@ -112,7 +112,7 @@ module _ {F G A : Type 0} (k : Kind F G A) (f : Spelling F G A) (readable : Read
             let size : length (ls ++ tokens w.value ∷ []) ≡ suc (length ls) = omega (arith, length_push ls (tokens w.value)) in
             begins (c - 1) (suc (length ls)) (ls ++ tokens w.value ∷ []) nearly.plan nearly.more (λ d h. nearly.passes d (omega arith)) nearly.lines (reached_more ls reached l) size
 
-    fault : (c : ℕ) → number_of r.cause ≡ c → 2 ≤ c → FirstFault k f c r.line bytes
+    fault : (c : ℕ) → number_of r.cause ≡ c → 2 ≤ c → FirstFault k f c r.position.line bytes
     fault c is two =
         subst (λ n. FirstFault k f c n bytes) (sym line_is)
         (record { before = length ls; line_is = refl; fine = fine; passes = passes c is; fails = fails c is two })

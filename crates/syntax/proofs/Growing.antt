@@ -21,7 +21,7 @@ use Rattle.syntax.proofs.ItemLines.{has_room, own_names, in_order, filled}
 
 nil_from : {X : Type 0} (xs : List X) → is_nil xs ≡ true → xs ≡ []
 nil_from [] h = refl
-nil_from (x ∷ xs) h = let i : ◌≡◌ {A = ℕ} 0 1 = cc in absurd (omega arith)
+nil_from (x ∷ xs) h = cc
 
 push_before_nil : {X : Type 0} (xs : List X) (x : X) (rest : List X) → rest ≡ [] → (xs ++ x ∷ []) ++ rest ≡ (xs ++ rest) ++ x ∷ []
 push_before_nil xs x rest h = ap (λ l. (xs ++ x ∷ []) ++ l) h ∙ append-nil (xs ++ x ∷ []) ∙ ap (λ l. l ++ x ∷ []) (sym (append-nil xs) ∙ ap (λ l. xs ++ l) (sym h))

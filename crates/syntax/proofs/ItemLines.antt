@@ -11,7 +11,8 @@ use Rattle.model.specs.Kind.{Kind}
 use Rattle.model.specs.Plan.{Plan, point_in, arc_in, edge_in, fact_filled}
 use Rattle.text.specs.Grammar.{StandsAt, take}
 use Rattle.text.specs.Readers.{letter, is_nil, optional}
-use Rattle.text.specs.Scan.{Scan, Taken, took, refused, then, one, broken, place}
+use Rattle.model.specs.Refusals.{refused_at}
+use Rattle.text.specs.Scan.{Scan, Taken, took, refused, then, one, broken, position}
 use Rattle.text.proofs.Spelled.{letter_only}
 use Rattle.kinds.specs.Spelling.{Spelling, ReadableParts}
 use Rattle.lines.specs.declared.Named.{Named}
@@ -29,7 +30,7 @@ use Rattle.syntax.proofs.Tokens.{stands_join, stands_end, same_line, same_lines,
 use Rattle.syntax.proofs.Judged.{first_of, unless, Settled, settled_then, settled_if, settled_within, ByForm, by_form_then, by_form_one, by_form_take, by_form_named, Outcome, Answers, FormedAt, ReadsAt, whole_reads}
 
 -- a test that must fail, and then a value
-settled_not : {X : Type 0} {line : ℕ} (x : X) (b : Bool) (c : Cause) (r : Refusal) → r.cause ≡ c → r.line ≡ line → Settled line x (unless (not b) c) (cond b (Err r) (Ok x))
+settled_not : {X : Type 0} {line : ℕ} (x : X) (b : Bool) (c : Cause) (r : Refusal) → r.cause ≡ c → r.position.line ≡ line → Settled line x (unless (not b) c) (cond b (Err r) (Ok x))
 settled_not x true c r is at = record { settles = (r, refl, is, at) }
 settled_not x false c r is at = record { settles = refl }
 
@@ -79,13 +80,13 @@ edge_said l = record { from = l.from.number; event = l.event.number; to = l.to.n
 -- all of it stands on one line
 abbrev pub PointOn : {F : Type 0} → ℕ → Option (PointLine F) → Type 0
 PointOn line None = Unit {0}
-PointOn line (Some t) = t.event.line ≡ line
+PointOn line (Some t) = (t.event.position.line ≡ line) × (t.position.line ≡ line)
 
 abbrev pub ArcOn : {F : Type 0} → ℕ → ArcLine F → Type 0
-ArcOn line l = (l.from.line ≡ line) × (l.to.line ≡ line) × PointOn line l.point
+ArcOn line l = (l.from.position.line ≡ line) × (l.to.position.line ≡ line) × PointOn line l.point
 
 abbrev pub EdgeOn : {G A : Type 0} → ℕ → EdgeLine G A → Type 0
-EdgeOn line l = (l.from.line ≡ line) × (l.event.line ≡ line) × (l.to.line ≡ line)
+EdgeOn line l = (l.from.position.line ≡ line) × (l.event.position.line ≡ line) × (l.to.position.line ≡ line)
 
 two_names : (a b : Bool) → first_of (first_of (unless a Name) (unless b Name)) None ≡ first_of (unless (a && b) Name) None
 two_names true true = refl
@@ -108,7 +109,7 @@ names_and_fact false b c d = refl
 
 -- the judgements of the three lines
 module _ {F G A : Type 0} (k : Kind F G A) (p : Plan F G A) (line : ℕ) where
-  bad_settled : (n : Named) → n.line ≡ line → Settled {X = Item F G A} line (Bad n.number) (item_wrong k p (Bad n.number)) (and_then (bad_of p n) (λ q. Ok (Bad q)))
+  bad_settled : (n : Named) → n.position.line ≡ line → Settled {X = Item F G A} line (Bad n.number) (item_wrong k p (Bad n.number)) (and_then (bad_of p n) (λ q. Ok (Bad q)))
   bad_settled n at =
       settled_by (two_names (ltb (last 0 p.bad) n.number) (ltb n.number p.states))
       (settled_then (bad_of p n) (λ q. Ok (Bad q))
@@ -118,11 +119,11 @@ module _ {F G A : Type 0} (k : Kind F G A) (p : Plan F G A) (line : ℕ) where
   point_settled : (o : Option (PointLine F)) → PointOn line o
       → Settled line (point_said o) (first_of (unless (point_in p.nodes p.events (point_said o)) Name) (unless (fact_filled k (point_said o)) Empty)) (point_of k p o)
   point_settled None on = record { settles = refl }
-  point_settled (Some t) on =
+  point_settled (Some t) (on, fact) =
       settled_then (within p.events t.event) _ (settled_within p.events t.event on)
-      (settled_not (Some (record { event = t.event.number; fact = t.fact })) (k.empty t.fact) Empty (record { cause = Empty; line = t.event.line; place = t.place }) refl on)
+      (settled_not (Some (record { event = t.event.number; fact = t.fact })) (k.empty t.fact) Empty (refused_at Empty t.position) refl fact)
 
-  arc_settled : (full : Refusal) → full.cause ≡ Count → full.line ≡ line → (l : ArcLine F) → ArcOn line l
+  arc_settled : (full : Refusal) → full.cause ≡ Count → full.position.line ≡ line → (l : ArcLine F) → ArcOn line l
       → Settled {X = Item F G A} line (Arc (arc_said l)) (item_wrong k p (Arc (arc_said l))) (room full 512 (length p.arcs) (and_then (arc_of k p l) (λ a. Ok (Arc a))))
   arc_settled full is at l (a, b, c) =
       settled_if (ltb (length p.arcs) 512) Count full is at
@@ -133,7 +134,7 @@ module _ {F G A : Type 0} (k : Kind F G A) (p : Plan F G A) (line : ℕ) where
       (settled_then (point_of k p l.point) _ (point_settled l.point c) (record { settles = refl }))))
       (record { settles = refl })))
 
-  edge_settled : (full : Refusal) → full.cause ≡ Count → full.line ≡ line → (l : EdgeLine G A) → EdgeOn line l
+  edge_settled : (full : Refusal) → full.cause ≡ Count → full.position.line ≡ line → (l : EdgeLine G A) → EdgeOn line l
       → Settled {X = Item F G A} line (Edge (edge_said l)) (item_wrong k p (Edge (edge_said l))) (room full 256 (length p.edges) (and_then (edge_of p l) (λ e. Ok (Edge e))))
   edge_settled full is at l (a, b, c) =
       settled_if (ltb (length p.edges) 256) Count full is at
@@ -169,10 +170,10 @@ module _ {F G A : Type 0} (f : Spelling F G A) (readable : ReadableParts f) wher
       by (Some v) y small st e =
           let q = then_took (take f.facts.grammar y) _ e in
           let (proper, fact) = (readable.facts_read.inverse y q.at q.value).0 q.first in
-          let point : Some (record { event = numbered s v; fact = q.value; place = place y }) ≡ o = cc q.second in
+          let point : Some (record { event = numbered s v; fact = q.value; position = position y }) ≡ o = cc q.second in
           let there : q.at ≡ z = cc q.second in
           subst (λ o. PointFormed f (point_said o) × PointOn s.number o × StandsAt s (point_tokens f (point_said o)) z) point
-          ((small, proper), refl, subst (λ y. StandsAt s (decimal v ∷ f.facts.spelled q.value) y) there (stands_join st fact))
+          ((small, proper), (refl, same_line st), subst (λ y. StandsAt s (decimal v ∷ f.facts.spelled q.value) y) there (stands_join st fact))
 
   arc_there : (s : Scan) (l : ArcLine F) (z : Scan) → arc_line f s ≡ took l z → ItemFormed f (Arc (arc_said l)) × ArcOn s.number l × StandsAt s (arc_tokens (arc_said l)) z
   arc_there s l z h =
@@ -227,9 +228,9 @@ module _ {F G A : Type 0} (f : Spelling F G A) (readable : ReadableParts f) wher
   event_back s (Some t) z (small, proper) st =
       let a = one_back (optional largest) (optional_back (Some t.event) small) st in
       let fact = (readable.facts_read.inverse a.at z t.fact).1 (proper, a.left) in
-      let l : PointLine F = record { event = numbered s t.event; fact = t.fact; place = place a.at } in
+      let l : PointLine F = record { event = numbered s t.event; fact = t.fact; position = position a.at } in
       let is : event_line f s ≡ took (Some l) z = rw (a.takes, fact) in
-      (Some l, is, refl, refl)
+      (Some l, is, refl, (refl, same_lines st a.left))
 
   pub arc_back : (s : Scan) (a : Arcs F) (z : Scan) → ItemFormed f (Arc a) → StandsAt s (arc_tokens a) z
       → (l : ArcLine F) × (arc_line f s ≡ took l z) × (arc_said l ≡ a) × ArcOn s.number l
@@ -271,10 +272,10 @@ module _ {F G A : Type 0} (f : Spelling F G A) (readable : ReadableParts f) wher
       by_form_then x.number (named x) _ (by_form_named x) (λ b w. by_form_then w.number (take f.guards.grammar w) _ (by_form_take f.guards.grammar w) (λ g u.
       by_form_then u.number (take f.actions.grammar u) _ (by_form_take f.actions.grammar u) (λ c t. refl)))))
 
-bad_there : (s : Scan) (n : Named) (z : Scan) → named s ≡ took n z → (n.number ≤ largest) × (n.line ≡ s.number) × StandsAt s (decimal n.number ∷ []) z
+bad_there : (s : Scan) (n : Named) (z : Scan) → named s ≡ took n z → (n.number ≤ largest) × (n.position.line ≡ s.number) × StandsAt s (decimal n.number ∷ []) z
 bad_there s n z h = let m = named_there s h in (m.small, m.line, m.stands)
 
-bad_back : (s : Scan) (q : ℕ) (z : Scan) → q ≤ largest → StandsAt s (decimal q ∷ []) z → (n : Named) × (named s ≡ took n z) × (n.number ≡ q) × (n.line ≡ s.number)
+bad_back : (s : Scan) (q : ℕ) (z : Scan) → q ≤ largest → StandsAt s (decimal q ∷ []) z → (n : Named) × (named s ≡ took n z) × (n.number ≡ q) × (n.position.line ≡ s.number)
 bad_back s q z small st = let m = named_back small st in (numbered s q, m.takes ∙ ap (took (numbered s q)) (stands_end m.left), refl, refl)
 
 module _ {F G A : Type 0} (k : Kind F G A) (f : Spelling F G A) (readable : ReadableParts f) (p : Plan F G A) where
@@ -302,10 +303,10 @@ module _ {F G A : Type 0} (k : Kind F G A) (f : Spelling F G A) (readable : Read
   module _ (s : Scan) where
     bad_reads : ReadsAt Bad (λ q. q ≤ largest) (λ q. decimal q ∷ []) (λ q. item_wrong k p (Bad q)) s (bad_item p s)
     bad_reads =
-        whole_reads Bad (λ q. q ≤ largest) (λ q. decimal q ∷ []) (λ q. item_wrong k p (Bad q)) named (λ n. n.number) (λ line n. n.line ≡ line)
+        whole_reads Bad (λ q. q ≤ largest) (λ q. decimal q ∷ []) (λ q. item_wrong k p (Bad q)) named (λ n. n.number) (λ line n. n.position.line ≡ line)
         (λ n. and_then (bad_of p n) (λ q. Ok (Bad q))) by_form_named bad_there bad_back s (bad_settled k p s.number)
 
-    module _ (full : Refusal) (is : full.cause ≡ Count) (at : full.line ≡ s.number) where
+    module _ (full : Refusal) (is : full.cause ≡ Count) (at : full.position.line ≡ s.number) where
       arc_reads : ReadsAt Arc (λ a. ItemFormed f (Arc a)) (arc_tokens f readable) (λ a. item_wrong k p (Arc a)) s (arc_item k f p full s)
       arc_reads =
           whole_reads Arc (λ a. ItemFormed f (Arc a)) (arc_tokens f readable) (λ a. item_wrong k p (Arc a)) (arc_line f) arc_said ArcOn

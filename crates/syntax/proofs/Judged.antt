@@ -26,7 +26,7 @@ unless false c = Some c
 -- a judgement of x, which stands on that line: accepted, or refused for that cause there
 abbrev pub Settles : {X : Type 0} → ℕ → X → Option Cause → Result X Refusal → Type 0
 Settles line x None t = t ≡ Ok x
-Settles line x (Some c) t = (r : Refusal) × (t ≡ Err r) × (r.cause ≡ c) × (r.line ≡ line)
+Settles line x (Some c) t = (r : Refusal) × (t ≡ Err r) × (r.cause ≡ c) × (r.position.line ≡ line)
 
 pub record Settled {X : Type 0} (line : ℕ) (x : X) (o : Option Cause) (t : Result X Refusal) : Type 0 where
   pub settles : Settles line x o t
@@ -41,23 +41,23 @@ settled_then {Y = Y} {line} {x} {y} {o} {p} t go h k = record { settles = by o h
     by (Some c) (r, e, is, at) = (r, ap (λ u. and_then u go) e, is, at)
 
 -- a test, and then a judgement
-pub settled_if : {X : Type 0} {line : ℕ} {x : X} {p : Option Cause} {t : Result X Refusal} (b : Bool) (c : Cause) (r : Refusal) → r.cause ≡ c → r.line ≡ line
+pub settled_if : {X : Type 0} {line : ℕ} {x : X} {p : Option Cause} {t : Result X Refusal} (b : Bool) (c : Cause) (r : Refusal) → r.cause ≡ c → r.position.line ≡ line
     → Settled line x p t → Settled line x (first_of (unless b c) p) (cond b t (Err r))
 settled_if true c r is at h = h
 settled_if false c r is at h = record { settles = (r, refl, is, at) }
 
 -- a test alone
-pub settled_test : {X : Type 0} {line : ℕ} (x : X) (b : Bool) (c : Cause) (r : Refusal) → r.cause ≡ c → r.line ≡ line → Settled line x (unless b c) (cond b (Ok x) (Err r))
+pub settled_test : {X : Type 0} {line : ℕ} (x : X) (b : Bool) (c : Cause) (r : Refusal) → r.cause ≡ c → r.position.line ≡ line → Settled line x (unless b c) (cond b (Ok x) (Err r))
 settled_test x true c r is at = record { settles = refl }
 settled_test x false c r is at = record { settles = (r, refl, is, at) }
 
-pub settled_within : {line : ℕ} (count : ℕ) (n : Named) → n.line ≡ line → Settled line n.number (unless (ltb n.number count) Name) (within count n)
+pub settled_within : {line : ℕ} (count : ℕ) (n : Named) → n.position.line ≡ line → Settled line n.number (unless (ltb n.number count) Name) (within count n)
 settled_within count n at = settled_test n.number (ltb n.number count) Name (at_name Name n) refl at
 
 -- refused by its form alone, on that line
 abbrev pub ByForm : {X : Type 0} → ℕ → Taken X → Type 0
 ByForm line (took x z) = z.number ≡ line
-ByForm line (refused r) = (r.cause ≡ Form) × (r.line ≡ line)
+ByForm line (refused r) = (r.cause ≡ Form) × (r.position.line ≡ line)
 
 pub by_form_then : {X Y : Type 0} (line : ℕ) (t : Taken X) (go : X → Scan → Taken Y) → ByForm line t → ((x : X) (z : Scan) → ByForm z.number (go x z)) → ByForm line (then t go)
 by_form_then {Y = Y} line (took x z) go h k = subst (λ n. ByForm n (go x z)) h (k x z)
@@ -84,7 +84,7 @@ by_form_named s = by_form_then s.number (one (natural 65535) s) (λ n z. took (n
 -- the end of a line
 abbrev pub Ends : Scan → Taken (Unit {0}) → Type 0
 Ends s (took u z) = Unit {0}
-Ends s (refused r) = (r.cause ≡ Form) × (r.line ≡ s.number)
+Ends s (refused r) = (r.cause ≡ Form) × (r.position.line ≡ s.number)
 
 pub close_ends : (s : Scan) → Ends s (close s)
 close_ends s = go s.tokens s.below
@@ -117,7 +117,7 @@ module _ {V X : Type 0} (make : V → X) (Formed : V → Type 0) (tokens : V →
   -- what a taken or a refused line says of its tokens
   abbrev pub Outcome : Scan → Taken X → Type 0
   Outcome s (took x z) = RightAt s x z
-  Outcome s (refused r) = (r.line ≡ s.number) × ((r.cause ≡ Form) ⊎ WrongAt s r.cause)
+  Outcome s (refused r) = (r.position.line ≡ s.number) × ((r.cause ≡ Form) ⊎ WrongAt s r.cause)
 
   -- what the tokens say of whether the line is taken
   abbrev pub Answers : V → Scan → Option Cause → Taken X → Type 0

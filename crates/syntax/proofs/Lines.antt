@@ -5,7 +5,8 @@ use Rattle.std.proofs.lemmas.List.{append_assoc, append-nil, append_cancel_left,
 use Rattle.std.proofs.lemmas.Bool.{eqb-true}
 use Rattle.text.specs.Cut.{Piece, cut, space, line_feed}
 use Rattle.text.specs.Grammar.{StandsAt, Unbroken}
-use Rattle.text.specs.Meaning.{scan_at, before}
+use Rattle.text.specs.Cursor.{scan_at}
+use Rattle.text.specs.Meaning.{before}
 use Rattle.text.specs.Scan.{Scan, took, enter, close, close_at}
 use Rattle.text.proofs.Cuts.{piece, First, first, word_space, word_stops, close_feed}
 use Rattle.syntax.specs.Texts.{byte_after, line}
@@ -99,8 +100,8 @@ close_parts : (s : Scan) {z : Scan} → close s ≡ took tt z → Closed s z
 close_parts s {z} h = go s.tokens s.below refl refl h
   where
     go : (ts ls : List Piece) → s.tokens ≡ ts → s.below ≡ ls → close_at s ts ls ≡ took tt z → Closed s z
-    go (t ∷ ts) ls p q e = let i : ◌≡◌ {A = ℕ} 0 1 = cc in absurd (omega arith)
-    go [] [] p q e = let i : ◌≡◌ {A = ℕ} 0 1 = cc in absurd (omega arith)
+    go (t ∷ ts) ls p q e = cc
+    go [] [] p q e = cc
     go [] (l ∷ ls) p q e = record { none = p; line = l; lines = ls; below = q; next = cc }
 
 -- what follows a line of those tokens
@@ -120,7 +121,7 @@ line_there n at bytes {ws} {z} h = ⊎_elim alone split (cut_cases line_feed at 
     below = ap (λ (s : Scan). s.below) h.stands.whole ∙ c.below
 
     alone : cut line_feed at bytes ≡ piece at bytes ∷ [] → LineIn n at bytes ws z
-    alone e = let f : ◌≡◌ {A = List Piece} [] (c.line ∷ c.lines) = rw e at below in let i : ◌≡◌ {A = ℕ} 0 1 = cc in absurd (omega arith)
+    alone e = let f : ◌≡◌ {A = List Piece} [] (c.line ∷ c.lines) = rw e at below in cc
 
     split : CutAt line_feed at bytes → LineIn n at bytes ws z
     split d =

@@ -53,8 +53,8 @@ pub close_next : (s : Scan) {u : Unit {0}} {z : Scan} → close s ≡ took u z �
 close_next s h = go s.tokens s.below refl h
   where
     go : (ts ls : List Piece) {u : Unit {0}} {z : Scan} → s.below ≡ ls → close_at s ts ls ≡ took u z → NextLine s z
-    go (t ∷ ts) ls e h = let i : ◌≡◌ {A = ℕ} 0 1 = cc in absurd (omega arith)
-    go [] [] e h = let i : ◌≡◌ {A = ℕ} 0 1 = cc in absurd (omega arith)
+    go (t ∷ ts) ls e h = cc
+    go [] [] e h = cc
     go [] (l ∷ ls) e h = record { line = l; were = e ∙ ap (λ (m : List Piece). l ∷ m) (cc) }
 
 -- the form of a line, its end, and a judgement
@@ -65,7 +65,7 @@ line_next s (took x a) r k h =
     let e = (taken_took (r x) p.at p.second).1 in
     let n = close_next a p.first in
     record { line = n.line; were = sym k ∙ n.were ∙ ap (λ (y : Scan). n.line ∷ y.below) e }
-line_next s (refused f) r k h = let i : ◌≡◌ {A = ℕ} 0 1 = cc in absurd (omega arith)
+line_next s (refused f) r k h = cc
 
 module _ {F G A : Type 0} (k : Kind F G A) (f : Spelling F G A) where
   keeps_point : (x : Scan) (o : Option ℕ) (w : Scan) → Keeps w (point_line f x o w)
@@ -110,14 +110,14 @@ module _ {F G A : Type 0} (k : Kind F G A) (f : Spelling F G A) where
           where
             taken_same : {X : Type 0} {y x : X} {b a : Scan} → took y b ≡ took x a → b ≡ a
             taken_same e = cc
-        kept (refused r) e h = let i : ◌≡◌ {A = ℕ} 0 1 = cc in absurd (omega arith)
+        kept (refused r) e h = cc
 
 -- past the last line there is none below
 pub over_last : (s : Scan) → over s ≡ true → s.below ≡ []
 over_last s h = go s.tokens s.below h
   where
     go : (ts ls : List Piece) → over_at ts ls ≡ true → ls ≡ []
-    go [] ls e = let i : ◌≡◌ {A = ℕ} 0 1 = cc in absurd (omega arith)
+    go [] ls e = cc
     go (t ∷ []) [] e = refl
-    go (t ∷ []) (l ∷ ls) e = let i : ◌≡◌ {A = ℕ} 0 1 = cc in absurd (omega arith)
-    go (t ∷ u ∷ ts) ls e = let i : ◌≡◌ {A = ℕ} 0 1 = cc in absurd (omega arith)
+    go (t ∷ []) (l ∷ ls) e = cc
+    go (t ∷ u ∷ ts) ls e = cc

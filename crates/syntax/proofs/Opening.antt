@@ -31,10 +31,10 @@ the_letter_only c w {u} h = go (letter w) refl h
   where
     same : (d : ℕ) (b : Bool) → eqb d c ≡ b → cond b (Some tt) None ≡ Some u → d ≡ c
     same d true e p = eqb-true d c e
-    same d false e p = let i : ◌≡◌ {A = ℕ} 0 1 = cc in absurd (omega arith)
+    same d false e p = cc
 
     go : (o : Option ℕ) → letter w ≡ o → if_same c o ≡ Some u → w ≡ c ∷ []
-    go None e p = let i : ◌≡◌ {A = ℕ} 0 1 = cc in absurd (omega arith)
+    go None e p = cc
     go (Some d) e p = (letter_only w d e).1 ∙ ap (λ b. b ∷ []) (same d (eqb d c) refl p)
 
 exactly_only : (v w : List ℕ) {u : Unit {0}} → exactly v w ≡ Some u → w ≡ v
@@ -42,7 +42,7 @@ exactly_only v w {u} h = go (is_text w && bytes_eq w v) refl h
   where
     go : (b : Bool) → (is_text w && bytes_eq w v) ≡ b → cond b (Some tt) None ≡ Some u → w ≡ v
     go true e p = (bytes_eq-Decides w v).0 (and_parts (is_text w) (bytes_eq w v) e).1
-    go false e p = let i : ◌≡◌ {A = ℕ} 0 1 = cc in absurd (omega arith)
+    go false e p = cc
 
 -- a line of a letter and a count
 module _ (c most : ℕ) (reads : the_letter c (c ∷ []) ≡ Some tt) where
@@ -56,7 +56,7 @@ module _ (c most : ℕ) (reads : the_letter c (c ∷ []) ≡ Some tt) where
   lettered_number s = then (one (the_letter c) s) (λ _ z. named z)
 
   number_there : (s : Scan) (n : Named) (z : Scan) → lettered_number s ≡ took n z
-      → (n.number ≤ largest) × (n.line ≡ s.number) × StandsAt s (count_tokens n.number) z
+      → (n.number ≤ largest) × (n.position.line ≡ s.number) × StandsAt s (count_tokens n.number) z
   number_there s n z h =
       let p = then_took (one (the_letter c) s) _ h in
       let o = one_there (the_letter c) s p.first in
@@ -65,7 +65,7 @@ module _ (c most : ℕ) (reads : the_letter c (c ∷ []) ≡ Some tt) where
       (m.small, m.line ∙ same_line first, stands_join first m.stands)
 
   number_back : (s : Scan) (n : ℕ) (z : Scan) → n ≤ largest → StandsAt s (count_tokens n) z
-      → (m : Named) × (lettered_number s ≡ took m z) × (m.number ≡ n) × (m.line ≡ s.number)
+      → (m : Named) × (lettered_number s ≡ took m z) × (m.number ≡ n) × (m.position.line ≡ s.number)
   number_back s n z small st =
       let o = one_back (the_letter c) reads st in
       let m = named_back small o.left in
@@ -80,13 +80,13 @@ module _ (c most : ℕ) (reads : the_letter c (c ∷ []) ≡ Some tt) where
   number_form : (s : Scan) → ByForm s.number (lettered_number s)
   number_form s = by_form_then s.number (one (the_letter c) s) (λ _ z. named z) (by_form_one (the_letter c) s) (λ _ z. by_form_named z)
 
-  count_settled : (s : Scan) (n : Named) → n.line ≡ s.number → Settled s.number n.number (count_wrong n.number) (counted most n)
+  count_settled : (s : Scan) (n : Named) → n.position.line ≡ s.number → Settled s.number n.number (count_wrong n.number) (counted most n)
   count_settled s n at = settled_test n.number (counts most n.number) Count (at_name Count n) refl at
 
   pub counts_read : (s : Scan) → ReadsAt (λ n. n) (λ n. n ≤ largest) count_tokens count_wrong s (count_line c most s)
   counts_read s =
       subst (ReadsAt (λ n. n) (λ n. n ≤ largest) count_tokens count_wrong s) (count_is s)
-      (whole_reads (λ n. n) (λ n. n ≤ largest) count_tokens count_wrong lettered_number (λ n. n.number) (λ line n. n.line ≡ line) (counted most) number_form number_there number_back s (count_settled s))
+      (whole_reads (λ n. n) (λ n. n ≤ largest) count_tokens count_wrong lettered_number (λ n. n.number) (λ line n. n.position.line ≡ line) (counted most) number_form number_there number_back s (count_settled s))
 
 -- the first line
 module _ {F G A : Type 0} (f : Spelling F G A) (readable : ReadableParts f) where

@@ -80,9 +80,9 @@ module _ {F G A : Type 0} (f : Spelling F G A) (readable : ReadableParts f) wher
 
   more_items : (is js : List (Item F G A)) (v : List (List ℕ)) (more : List (List (List ℕ))) → AllByRecursion (ItemFormed f) is → AllByRecursion (ItemFormed f) js
       → map (item_tokens f) js ≡ map (item_tokens f) is ++ v ∷ more → MoreItems is js v
-  more_items [] [] v more u t e = let n : ◌≡◌ {A = ℕ} 0 1 = cc in absurd (omega arith)
+  more_items [] [] v more u t e = cc
   more_items [] (j ∷ js) v more u t e = record { next = j; others = js; are = refl; formed = t.0; tokens = cc }
-  more_items (i ∷ is) [] v more u t e = let n : ◌≡◌ {A = ℕ} 0 1 = cc in absurd (omega arith)
+  more_items (i ∷ is) [] v more u t e = cc
   more_items (i ∷ is) (j ∷ js) v more u t e =
       let first : item_tokens f j ≡ item_tokens f i = cc in
       let later : map (item_tokens f) js ≡ map (item_tokens f) is ++ v ∷ more = cc in

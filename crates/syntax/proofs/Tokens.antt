@@ -24,7 +24,7 @@ pub token_first : {s : Scan} {w : List ℕ} {ws : List (List ℕ)} {z : Scan} �
 token_first {s} {w} {ws} {z} h = go h.front h.is h.whole
   where
     go : (front : List Piece) → map (λ t. t.bytes) front ≡ w ∷ ws → s ≡ with_tokens z (front ++ z.tokens) → TokenFirst s w ws z
-    go [] i e = let n : ◌≡◌ {A = ℕ} 0 1 = cc in absurd (omega arith)
+    go [] i e = cc
     go (t ∷ front) i e =
         record { token = t; after = with_tokens z (front ++ z.tokens); here = e; is = cc; others = record { front = front; is = cc; whole = refl } }
 
@@ -37,7 +37,7 @@ stands_end {s} {z} h = go h.front h.is h.whole
   where
     go : (front : List Piece) → map (λ t. t.bytes) front ≡ [] → s ≡ with_tokens z (front ++ z.tokens) → s ≡ z
     go [] i e = e
-    go (t ∷ front) i e = let n : ◌≡◌ {A = ℕ} 0 1 = cc in absurd (omega arith)
+    go (t ∷ front) i e = cc
 
 pub stands_join : {s y z : Scan} {ws vs : List (List ℕ)} → StandsAt s ws y → StandsAt y vs z → StandsAt s (ws ++ vs) z
 stands_join {z = z} a b =
@@ -72,7 +72,7 @@ pub one_there : {X : Type 0} (f : List ℕ → Option X) (s : Scan) {x : X} {z :
 one_there {X} f s {x} {z} h = go s.tokens refl h
   where
     valued_as : (t : Piece) (ts : List Piece) → s.tokens ≡ t ∷ ts → (o : Option X) → f t.bytes ≡ o → valued (broken s) o (with_tokens s ts) ≡ took x z → OneAt f s x z
-    valued_as t ts q None p e = let n : ◌≡◌ {A = ℕ} 0 1 = cc in absurd (omega arith)
+    valued_as t ts q None p e = cc
     valued_as t ts q (Some y) p e =
         let same : y ≡ x = cc in
         let there : with_tokens s ts ≡ z = cc in
@@ -84,7 +84,7 @@ one_there {X} f s {x} {z} h = go s.tokens refl h
         }
 
     go : (ts : List Piece) → s.tokens ≡ ts → one_of f s ts ≡ took x z → OneAt f s x z
-    go [] q e = let n : ◌≡◌ {A = ℕ} 0 1 = cc in absurd (omega arith)
+    go [] q e = cc
     go (t ∷ ts) q e = valued_as t ts q (f t.bytes) refl e
 
 -- the tokens ws are left after what t took, as it stands there
@@ -110,14 +110,14 @@ numbers = naturals largest (omega arith)
 -- a number that was read, with its line
 pub record NamedAt (s : Scan) (n : Named) (z : Scan) : Type 0 where
   pub small : n.number ≤ largest
-  pub line : n.line ≡ s.number
+  pub line : n.position.line ≡ s.number
   pub stands : StandsAt s (decimal n.number ∷ []) z
 
 pub named_there : (s : Scan) {n : Named} {z : Scan} → named s ≡ took n z → NamedAt s n z
 named_there s {n} {z} h = go (one (natural largest) s) refl h
   where
     go : (t : Taken ℕ) → one (natural largest) s ≡ t → then t (λ m a. took (numbered s m) a) ≡ took n z → NamedAt s n z
-    go (refused r) p e = let i : ◌≡◌ {A = ℕ} 0 1 = cc in absurd (omega arith)
+    go (refused r) p e = cc
     go (took m a) p e =
         let o = one_there (natural largest) s p in
         let (small, is) = numbers.only o.token m o.reads in
@@ -141,16 +141,16 @@ OptionalSmall None = Unit {0}
 OptionalSmall (Some n) = n ≤ largest
 
 pub optional_only : (w : List ℕ) (o : Option ℕ) → optional largest w ≡ Some o → OptionalSmall o × (w ≡ optional_token o)
-optional_only [] o e = let i : ◌≡◌ {A = ℕ} 0 1 = cc in absurd (omega arith)
+optional_only [] o e = cc
 optional_only (c ∷ cs) o e = go (eqb c minus && is_nil cs) refl e
   where
     numbered_as : (m : Option ℕ) → natural largest (c ∷ cs) ≡ m → present m ≡ Some o → OptionalSmall o × (c ∷ cs ≡ optional_token o)
-    numbered_as None p e = let i : ◌≡◌ {A = ℕ} 0 1 = cc in absurd (omega arith)
+    numbered_as None p e = cc
     numbered_as (Some n) p e = let same : Some n ≡ o = cc in subst (λ v. OptionalSmall v × (c ∷ cs ≡ optional_token v)) same (numbers.only (c ∷ cs) n p)
 
     alone : (cs : List ℕ) → c ≡ minus → is_nil cs ≡ true → c ∷ cs ≡ codes "-"
     alone [] p q = ap (λ b. b ∷ []) p
-    alone (d ∷ cs) p q = let i : ◌≡◌ {A = ℕ} 0 1 = cc in absurd (omega arith)
+    alone (d ∷ cs) p q = cc
 
     go : (t : Bool) → (eqb c minus && is_nil cs) ≡ t → cond t (Some None) (present (natural largest (c ∷ cs))) ≡ Some o → OptionalSmall o × (c ∷ cs ≡ optional_token o)
     go true p e =
@@ -161,7 +161,7 @@ optional_only (c ∷ cs) o e = go (eqb c minus && is_nil cs) refl e
 
 -- a number has no minus sign in front
 optional_number : (w : List ℕ) (n : ℕ) → natural largest w ≡ Some n → optional largest w ≡ Some (Some n)
-optional_number [] n e = let i : ◌≡◌ {A = ℕ} 0 1 = cc in absurd (omega arith)
+optional_number [] n e = cc
 optional_number (c ∷ cs) n e = rw (and_left (eqb c minus) (is_nil cs) (other (eqb c minus) refl), e)
   where
     other : (t : Bool) → eqb c minus ≡ t → eqb c minus ≡ false

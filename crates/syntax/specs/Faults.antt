@@ -42,10 +42,10 @@ module _ {F G A : Type 0} (k : Kind F G A) (f : Spelling F G A) where
 
   abbrev pub RefusedFor : List ℕ → Refusal → Cause → Type 0
   RefusedFor bytes r Length = (32768 < length bytes) × (r ≡ too_long)
-  RefusedFor bytes r Form = FirstFault 2 r.line bytes
-  RefusedFor bytes r Count = FirstFault 3 r.line bytes
-  RefusedFor bytes r Name = FirstFault 4 r.line bytes
-  RefusedFor bytes r Empty = FirstFault 5 r.line bytes
+  RefusedFor bytes r Form = FirstFault 2 r.position.line bytes
+  RefusedFor bytes r Count = FirstFault 3 r.position.line bytes
+  RefusedFor bytes r Name = FirstFault 4 r.position.line bytes
+  RefusedFor bytes r Empty = FirstFault 5 r.position.line bytes
 
   -- for all bytes: a refusal names the first line that fails, and the smallest number by which it does
   abbrev pub RefusesAtFirstFault : Type 0

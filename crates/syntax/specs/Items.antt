@@ -1,13 +1,14 @@
 -- What the lines of a plan text may name, and what they add to a plan.
-use Rattle.std.specs.Prelude.{◌≡◌, ℕ, true, cond, ◌&&◌, List, [], ◌∷◌, ◌++◌, length, Some, None, Ok, Err, Option, Result, ◌==◌, nat_lt}
+use Rattle.std.specs.Prelude.{ℕ, cond, ◌&&◌, List, [], ◌∷◌, ◌++◌, length, Some, None, Ok, Err, Option, Result, ◌==◌, nat_lt}
 use Rattle.model.specs.declared.Cause.TheVariants.{Count, Name, Empty}
 use Rattle.model.specs.declared.Refusal.{Refusal}
 use Rattle.model.specs.declared.Point.{Point}
 use Rattle.model.specs.declared.Arc.{Arc as Arcs}
 use Rattle.model.specs.declared.Edge.{Edge as Edges}
 use Rattle.model.specs.Kind.{Kind}
-use Rattle.model.specs.Plan.{Plan, bad_in, arcs_in, edges_in}
-use Rattle.text.specs.Scan.{Scan, Taken, refused, taken, then, one, close, place, broken}
+use Rattle.model.specs.Refusals.{refused_at}
+use Rattle.model.specs.Plan.{Plan}
+use Rattle.text.specs.Scan.{Scan, Taken, refused, taken, then, one, close, position, broken}
 use Rattle.text.specs.Readers.{letter, is_nil}
 use Rattle.kinds.specs.Spelling.{Spelling}
 use Rattle.lines.specs.declared.Named.{Named}
@@ -33,7 +34,7 @@ last b (q ∷ qs) = last q qs
 
 -- the refusal of one thing too many, at the start of its line
 abbrev pub too_many : Scan → Refusal
-too_many s = record { cause = Count; line = s.number; place = place s }
+too_many s = refused_at Count (position s)
 
 abbrev pub room : {X : Type 0} → Refusal → ℕ → ℕ → Result X Refusal → Result X Refusal
 room full most n r = cond (nat_lt n most) r (Err full)
@@ -58,19 +59,13 @@ module _ {F G A : Type 0} (p : Plan F G A) where
   added (Arc a) = record { nodes = p.nodes; states = p.states; events = p.events; bad = p.bad; arcs = p.arcs ++ a ∷ []; edges = p.edges }
   added (Edge e) = record { nodes = p.nodes; states = p.states; events = p.events; bad = p.bad; arcs = p.arcs; edges = p.edges ++ e ∷ [] }
 
-  -- what a line gives keeps the plan in bounds
-  abbrev pub Fits : Item F G A → Type 0
-  Fits (Bad q) = bad_in p.states (p.bad ++ q ∷ []) ≡ true
-  Fits (Arc a) = arcs_in p.nodes p.events (p.arcs ++ a ∷ []) ≡ true
-  Fits (Edge e) = edges_in p.states p.events (p.edges ++ e ∷ []) ≡ true
-
 module _ {F G A : Type 0} (k : Kind F G A) (p : Plan F G A) where
   -- an event of the plan, and a fact that some datum meets
   abbrev pub point_of : Option (PointLine F) → Result (Option (Point F)) Refusal
   point_of None = Ok None
   point_of (Some t) =
       and_then (within p.events t.event) (λ v.
-      cond (k.empty t.fact) (Err (record { cause = Empty; line = t.event.line; place = t.place })) (Ok (Some (record { event = v; fact = t.fact }))))
+      cond (k.empty t.fact) (Err (refused_at Empty t.position)) (Ok (Some (record { event = v; fact = t.fact }))))
 
   abbrev pub arc_of : ArcLine F → Result (Arcs F) Refusal
   arc_of l =

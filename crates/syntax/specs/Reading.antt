@@ -3,6 +3,7 @@ use Rattle.std.specs.Prelude.{◌≡◌, ℕ, ◌≤◌, cond, List, [], ◌∷�
 use Rattle.model.specs.declared.Cause.TheVariants.{Length}
 use Rattle.model.specs.declared.Refusal.{Refusal}
 use Rattle.model.specs.Kind.{Kind}
+use Rattle.model.specs.Refusals.{refused_at}
 use Rattle.model.specs.Plan.{Plan}
 use Rattle.text.specs.Cut.{Piece}
 use Rattle.text.specs.Scan.{Scan, Taken, took, refused, then, start, over}
@@ -17,7 +18,7 @@ outcome (refused r) = Err r
 
 -- no line is to blame for a text that is too long
 abbrev pub too_long : Refusal
-too_long = record { cause = Length; line = 0; place = 0 }
+too_long = refused_at Length (record { line = 0; place = 0 })
 
 -- the four opening lines: nodes, states and events
 abbrev pub header : {F G A : Type 0} → Spelling F G A → Scan → Taken (Plan F G A)

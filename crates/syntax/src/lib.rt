@@ -1,6 +1,6 @@
-// The text of a plan, unfinished: how a plan is spelled, and lemmas towards the reading of any bytes being the inverse of
-// that. Items and Reading in specs/, and Steps, Moves, Fitting and Whole in proofs/, say again what `plans` says, by which
-// the code reads; they are to take the place of those. No contract cites this crate.
+// The text of a plan: how its lines add to a plan, what the reading of a text comes to, how a plan is spelled, and lemmas
+// towards the reading of any bytes being the inverse of spelling. The two theorems of that, `AcceptsTextsOnly` and
+// `RefusesAtFirstFault`, are stated here; they are not proved yet, and no contract names them.
 #![tactic(auto)]
 
 use model::{Arc, Edge};

@@ -1,7 +1,6 @@
 -- The tally kind: what it answers.
 use Rattle.std.specs.Prelude.{ℕ, ◌^◌, ◌<◌, Bool, true, false, cond, ◌&&◌, ◌||◌, ℤ, pos, negsuc, ◌+ℤ◌, ◌==◌, int_le, int_lt, nat_lt}
-use Rattle.std.proofs.Common.{to_z, of_z}
-use Rattle.std.specs.Int.{int_max, int_min, saturate_to_bits, w32}
+use Rattle.std.specs.Int.{cast_signed, cast_unsigned, int_max, int_min, saturate_to_bits, w32}
 use Rattle.model.specs.declared.Rating.TheVariants.{Never, Maybe, Always}
 use Rattle.model.specs.Kind.{Kind}
 use Rattle.tally.specs.declared.data.Range.{Range}
@@ -18,7 +17,7 @@ greatest = pos 2147483647
 
 -- the number that a word stands for, as signed
 abbrev pub value : ℕ → ℤ
-value = to_z w32
+value = cast_signed w32
 
 abbrev pub contains : Range → ℤ → Bool
 contains r z = int_le r.lo z && int_le z r.hi
@@ -40,7 +39,7 @@ highest f = int_min f.hi greatest
 
 -- the word for a number, or for the end of the signed words that it passes
 abbrev pub made : ℤ → ℕ
-made z = of_z w32 (saturate_to_bits 31 z)
+made z = cast_unsigned w32 (saturate_to_bits 31 z)
 
 abbrev pub makes : Action → ℕ → ℕ → ℕ
 makes Nothing s d = s

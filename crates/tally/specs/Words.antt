@@ -1,8 +1,8 @@
 -- From the words to the signed numbers that they stand for, and back.
 use Rattle.std.specs.Prelude.{◌≡◌, ℕ, ◌^◌, ◌<◌, T, ℤ}
-use Rattle.std.proofs.Common.{subst, arith, lt→ltb, of_z}
+use Rattle.std.proofs.Common.{subst, arith, lt→ltb}
 use Rattle.std.specs.Float.Ieee.Fits.{and_i, and_r}
-use Rattle.std.specs.Int.{w32}
+use Rattle.std.specs.Int.{cast_unsigned, w32}
 use Rattle.std.proofs.lemmas.Int.{ints}
 use Rattle.tally.specs.declared.data.Range.{Range}
 use Rattle.tally.specs.Tally.{tally, least, greatest, value, contains, lowest, highest}
@@ -14,9 +14,9 @@ signed_between s h = record { above = omega (arith, ints); below = omega (arith,
 -- what holds of the number of every word holds of every number among the signed words
 pub of_words : (P : ℤ → Type 0) → ((s : ℕ) → s < 2 ^ 32 → P (value s)) → (z : ℤ) → Between least greatest z → P z
 of_words P h z b =
-    let back : value (of_z w32 z) ≡ z = omega (arith, ints) in
-    let small : of_z w32 z < 2 ^ 32 = omega (arith, ints) in
-    subst P back (h (of_z w32 z) small)
+    let back : value (cast_unsigned w32 z) ≡ z = omega (arith, ints) in
+    let small : cast_unsigned w32 z < 2 ^ 32 = omega (arith, ints) in
+    subst P back (h (cast_unsigned w32 z) small)
 
 pub meets_between : (f : Range) (d : ℕ) → d < 2 ^ 32 → T (tally.meets f d) → Between (lowest f) (highest f) (value d)
 meets_between f d l m = contained_between f (value d) (signed_between d l) (and_r _ _ m)

@@ -1,4 +1,5 @@
-// The numbers from `lo` to `hi`, both ends included. A fact is one: the datum lies there.
+// The numbers from `lo` to `hi`, both ends included. A fact is one: the datum lies there. (`RangeInclusive` is no `Copy`, as
+// facts have to be.)
 #[derive(Clone, Copy)]
 pub struct Range {
     pub lo: i32,

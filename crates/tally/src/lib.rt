@@ -3,14 +3,11 @@
 #![tactic(auto)]
 
 ghost use Rattle.std.specs.Prelude.{◌≡◌, refl};
-ghost use Rattle.std.specs.Int.{w32};
-ghost use Rattle.std.proofs.Common.{of_z, to_z};
 ghost use Rattle.tally.specs.Cases.{WorkedCases};
 ghost use Rattle.tally.specs.Tally.{tally, contains, misses, covers, lowest, highest};
 ghost use Rattle.tally.specs.Spelled.{spelling, facts};
 ghost use Rattle.text.specs.Scan.{taken};
 ghost use Rattle.text.specs.Grammar.{take};
-ghost use Rattle.text.specs.Meaning.{scan_of};
 ghost use Rattle.tally.specs.Laws.{begins, stays, datums, empties, idles, rates};
 ghost use Rattle.tally.specs.Readable.{facts_read, guards_read, actions_read};
 
@@ -36,7 +33,7 @@ impl Range {
     fn contains(&self, n: i32) -> bool
         ensures { result ≡ contains self.now n }
     {
-        self.lo <= n && n <= self.hi
+        (self.lo..=self.hi).contains(&n)
     }
 
     // Whether the range reaches both ends of the other.
@@ -52,20 +49,6 @@ impl Range {
     {
         self.hi.min(other.hi) < self.lo.max(other.lo)
     }
-}
-
-// The number that a word stands for.
-fn signed(w: u32) -> i32
-    ensures { result ≡ to_z w32 w }
-{
-    w.cast_signed()
-}
-
-// The word that stands for a number.
-fn word(n: i32) -> u32
-    ensures { result ≡ of_z w32 n }
-{
-    n.cast_unsigned()
 }
 
 impl Kind for Tally {
@@ -93,7 +76,7 @@ impl Kind for Tally {
     }
 
     fn meets(fact: &Range, datum: u32) -> bool {
-        fact.contains(signed(datum))
+        fact.contains(datum.cast_signed())
     }
 
     fn is_empty(fact: &Range) -> bool {
@@ -101,15 +84,18 @@ impl Kind for Tally {
     }
 
     fn holds(guard: &Guard, store: u32, datum: u32) -> bool {
-        guard.count.contains(signed(store)) && guard.datum.contains(signed(datum))
+        guard.count.contains(store.cast_signed()) && guard.datum.contains(datum.cast_signed())
     }
 
     fn makes(action: &Action, store: u32, datum: u32) -> u32 {
         match *action {
             Action::Nothing => store,
-            Action::Add(k) => word(signed(store).saturating_add(k)),
-            Action::AddDatum => word(signed(store).saturating_add(signed(datum))),
-            Action::Set(k) => word(k),
+            Action::Add(k) => store.cast_signed().saturating_add(k).cast_unsigned(),
+            Action::AddDatum => store
+                .cast_signed()
+                .saturating_add(datum.cast_signed())
+                .cast_unsigned(),
+            Action::Set(k) => k.cast_unsigned(),
         }
     }
 
@@ -128,20 +114,13 @@ impl Kind for Tally {
     }
 }
 
-// The worked cases of the definitions hold.
+// The worked cases of the definitions hold. Each kind states cases of its own.
 pub fn worked_cases()
     ensures { WorkedCases }
 {}
 
-// A range is spelled by its two ends.
-fn range(tokens: &mut Tokens<'_>) -> Result<Range, Refusal>
-    ensures { taken result (scan_of tokens.new) ≡ take facts.grammar (scan_of tokens.old) }
-{
-    let lo = tokens.signed()?;
-    let hi = tokens.signed()?;
-    Ok(Range { lo, hi })
-}
-
+// Letters are matched against characters, as the format has them. A method of the cursor that is passed what each stands for
+// would have a premise, that it may be called.
 impl Spelling for Tally {
     ghost formats = { spelling };
 
@@ -152,12 +131,14 @@ impl Spelling for Tally {
     }
 
     fn fact(tokens: &mut Tokens<'_>) -> Result<Range, Refusal> {
-        range(tokens)
+        let lo = tokens.signed()?;
+        let hi = tokens.signed()?;
+        Ok(Range { lo, hi })
     }
 
     fn guard(tokens: &mut Tokens<'_>) -> Result<Guard, Refusal> {
-        let count = range(tokens)?;
-        let datum = range(tokens)?;
+        let count = Tally::fact(tokens)?;
+        let datum = Tally::fact(tokens)?;
         Ok(Guard { count, datum })
     }
 

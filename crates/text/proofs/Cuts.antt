@@ -1,11 +1,23 @@
 -- A scan of one word, byte by byte, is one token of the cut line.
-use Rattle.std.proofs.Common.{◌≡◌, ℕ, suc, ◌+◌, ◌-◌, ◌<◌, Bool, true, false, eqb, List, [], ◌∷◌, ◌++◌, length, get_or, take, drop, sym, refl, ap, ◌∙◌, ⊎_elim, add-zero, arith}
-use Rattle.std.proofs.lemmas.List.{length-drop, length-take-le, get_or-take, get_or-drop, take-append-drop, drop-drop, drop_more}
-use Rattle.std.proofs.lemmas.Bool.{or_parts, or_cases, eq-eqb, eqb-true}
+use Rattle.std.proofs.Common.{◌≡◌, ℕ, suc, ◌+◌, ◌-◌, ◌<◌, ◌≤◌, Bool, true, false, not, eqb, leb, List, [], ◌∷◌, ◌++◌, length, get_or, take, drop, sym, refl, ap, ◌∙◌, subst, ⊎_elim, add-zero, add-one, arith}
+use Rattle.std.specs.List.{position_or_len}
+use Rattle.std.proofs.lemmas.List.{length-drop, get_or-take, get_or-drop, take-append-drop, drop-drop, drop_more, drop_all}
+use Rattle.std.proofs.lemmas.List.Folds.{length-prefix_len}
+use Rattle.std.proofs.lemmas.List.Sums.{fails_before_first, passes_at_first}
+use Rattle.std.proofs.lemmas.Bool.{or_parts, or_cases, eq-eqb, eqb-true, le-leb, lt-leb}
+use Rattle.text.specs.declared.tokens.Ahead.{Ahead}
+use Rattle.text.specs.declared.tokens.Ahead.TheVariants.{Token, LineEnd}
+use Rattle.text.specs.declared.tokens.Tokens.TheInside.{Inside}
+use Rattle.text.specs.Ahead.{place_of, is_token}
 use Rattle.text.specs.Cut.{Piece, longer, cut, space, line_feed, separates, NoSeparator}
-use Rattle.text.specs.Scan.{Scan, enter, place, took, refused, broken, close, over, over_at}
+use Rattle.text.specs.Scan.{Scan, enter, place, position, took, refused, broken, close, over, over_at}
 use Rattle.text.specs.Readers.{is_nil}
-use Rattle.text.specs.Meaning.{scan_at, before, TokenEnd}
+use Rattle.text.specs.Cursor.{scan_of, scan_at, IsCursor}
+use Rattle.text.specs.Meaning.{before}
+
+-- a cursor stands where what comes next in it does
+pub cursor_at : (t : Inside) (a : Ahead) → t.ahead ≡ a → scan_of t ≡ scan_at (is_token a) t.line (cut line_feed (place_of a) (drop (place_of a) t.text.now))
+cursor_at t a e = ap (λ (b : Ahead). scan_at (is_token b) t.line (cut line_feed (place_of b) (drop (place_of b) t.text.now))) e
 
 abbrev pub piece : ℕ → List ℕ → Piece
 piece at bs = record { place = at; bytes = bs }
@@ -72,40 +84,77 @@ stopped : (bs : List ℕ) → (0 < length bs → get_or bs 0 0 ≡ line_feed) �
 stopped [] h = tt
 stopped (b ∷ bs) h = h (omega arith)
 
--- the word that a scan of the text from `at` finds
-module _ (n at e : ℕ) (text : List ℕ) (w : TokenEnd text at e) where
-  abbrev pub found : List ℕ
-  found = take (e - at) (drop at text)
+-- where a text's line ends at `at`, no space comes next
+stops_at : (at : ℕ) (text : List ℕ) → (at < length text → get_or text at 0 ≡ line_feed) → LineStops (drop at text)
+stops_at at text h = stopped (drop at text) (λ l. get_or-drop at text 0 0 ∙ ap (λ (i : ℕ). get_or text i 0) (add-zero at) ∙ h (omega (arith, length-drop at text)))
 
-  found_length : length found ≡ e - at
-  found_length = length-take-le (e - at) (drop at text) (omega (arith, length-drop at text, w.after, w.within))
+-- the word before the first byte that separates, from `at` on
+module _ (at : ℕ) (text : List ℕ) where
+  abbrev pub count : ℕ
+  count = position_or_len separates (drop at text)
+
+  abbrev pub found : List ℕ
+  found = take count (drop at text)
+
+  found_length : length found ≡ count
+  found_length = length-prefix_len (λ b. not (separates b)) (drop at text)
 
   found_plain : NoSeparator found
   found_plain =
       no_separator_in found (λ k h.
-      let l : k < e - at = omega (arith, found_length) in
-      ap separates (get_or-take (e - at) (drop at text) k 0 l ∙ get_or-drop at text k 0) ∙ w.inside (at + k) (omega arith) (omega arith))
+      let l : k < count = omega (arith, found_length) in
+      ap separates (get_or-take count (drop at text) k 0 l) ∙ fails_before_first separates (drop at text) k 0 l)
 
-  found_rest : drop at text ≡ found ++ drop e text
-  found_rest =
-      let s : at + (e - at) ≡ e = omega (arith, w.after) in
-      sym (take-append-drop (e - at) (drop at text)) ∙ ap (λ (l : List ℕ). found ++ l) (drop-drop (e - at) at text ∙ ap (λ (i : ℕ). drop i text) s)
+  found_rest : drop at text ≡ found ++ drop (at + count) text
+  found_rest = sym (take-append-drop count (drop at text)) ∙ ap (λ (l : List ℕ). found ++ l) (drop-drop count at text)
 
-  pub found_space : e < length text → get_or text e 0 ≡ space
-      → scan_at true n (cut line_feed at (drop at text)) ≡ before (scan_at true n (cut line_feed (e + 1) (drop (e + 1) text))) (piece at found)
-  found_space l h =
-      let s : suc (at + length found) ≡ e + 1 = omega (arith, found_length, w.after) in
-      ap (λ (bs : List ℕ). scan_at true n (cut line_feed at bs)) (found_rest ∙ ap (λ (bs : List ℕ). found ++ bs) (drop_more text e 0 l ∙ ap (λ (b : ℕ). b ∷ drop (e + 1) text) h))
-      ∙ word_space n at found (drop (e + 1) text) found_plain
-      ∙ ap (λ (i : ℕ). before (scan_at true n (cut line_feed i (drop (e + 1) text))) (piece at found)) s
+  pub found_space : (n : ℕ) → at + count < length text → get_or text (at + count) 0 ≡ space
+      → scan_at true n (cut line_feed at (drop at text)) ≡ before (scan_at true n (cut line_feed (at + count + 1) (drop (at + count + 1) text))) (piece at found)
+  found_space n l h =
+      let s : suc (at + length found) ≡ at + count + 1 = omega (arith, found_length) in
+      ap (λ (bs : List ℕ). scan_at true n (cut line_feed at bs))
+      (found_rest ∙ ap (λ (bs : List ℕ). found ++ bs) (drop_more text (at + count) 0 l ∙ ap (λ (b : ℕ). b ∷ drop (at + count + 1) text) h))
+      ∙ word_space n at found (drop (at + count + 1) text) found_plain
+      ∙ ap (λ (i : ℕ). before (scan_at true n (cut line_feed i (drop (at + count + 1) text))) (piece at found)) s
 
-  pub found_end : (e < length text → get_or text e 0 ≡ line_feed)
-      → scan_at true n (cut line_feed at (drop at text)) ≡ before (scan_at false n (cut line_feed e (drop e text))) (piece at found)
-  found_end h =
-      let s : at + length found ≡ e = omega (arith, found_length, w.after) in
+  feeds : at + count < length text → (get_or text (at + count) 0 ≡ space → ⊥) → get_or text (at + count) 0 ≡ line_feed
+  feeds l other =
+      let inside : count < length (drop at text) = omega (arith, length-drop at text, l) in
+      let ends : separates (get_or text (at + count) 0) ≡ true =
+      ap separates (sym (get_or-drop at text count 0)) ∙ passes_at_first separates (drop at text) 0 inside in
+      ⊎_elim (λ e. absurd (other (eqb-true _ space e))) (eqb-true _ line_feed) (or_cases _ _ ends)
+
+  pub found_end : (n : ℕ) → (at + count < length text → get_or text (at + count) 0 ≡ space → ⊥)
+      → scan_at true n (cut line_feed at (drop at text)) ≡ before (scan_at false n (cut line_feed (at + count) (drop (at + count) text))) (piece at found)
+  found_end n h =
       ap (λ (bs : List ℕ). scan_at true n (cut line_feed at bs)) found_rest
-      ∙ word_stops n at found (drop e text) found_plain (stopped (drop e text) (λ l. get_or-drop e text 0 0 ∙ ap (λ (i : ℕ). get_or text i 0) (add-zero e) ∙ h (omega (arith, length-drop e text))))
-      ∙ ap (λ (i : ℕ). before (scan_at false n (cut line_feed i (drop e text))) (piece at found)) s
+      ∙ word_stops n at found (drop (at + count) text) found_plain (stops_at (at + count) text (λ l. feeds l (h l)))
+      ∙ ap (λ (i : ℕ). before (scan_at false n (cut line_feed (at + i) (drop (at + count) text))) (piece at found)) found_length
+
+  -- such a word, and the bytes after it
+  module _ (w after : List ℕ) (is : w ≡ found) (rest : after ≡ drop (at + count) text) where
+    pub word_length : length w ≡ count
+    word_length = ap length is ∙ found_length
+
+    pub after_length : length after ≡ length text - (at + count)
+    after_length = ap length rest ∙ length-drop (at + count) text
+
+    first_after : get_or after 0 0 ≡ get_or text (at + count) 0
+    first_after = rw rest (get_or-drop (at + count) text 0 0 ∙ ap (λ (i : ℕ). get_or text i 0) (add-zero (at + count)))
+
+    pub next_space : (n : ℕ) → 0 < length after → get_or after 0 0 ≡ space
+        → scan_at true n (cut line_feed at (drop at text)) ≡ before (scan_at true n (cut line_feed (at + length w + 1) (drop (at + length w + 1) text))) (piece at w)
+    next_space n l h = rw (word_length, is) (found_space n (omega (arith, after_length)) (sym first_after ∙ h))
+
+    no_space : (0 < length after → get_or after 0 0 ≡ space → ⊥) → at + count < length text → get_or text (at + count) 0 ≡ space → ⊥
+    no_space other l h = other (omega (arith, after_length)) (first_after ∙ h)
+
+    pub next_end : (n : ℕ) → (0 < length after → get_or after 0 0 ≡ space → ⊥)
+        → scan_at true n (cut line_feed at (drop at text)) ≡ before (scan_at false n (cut line_feed (at + length w) (drop (at + length w) text))) (piece at w)
+    next_end n other = rw (word_length, is) (found_end n (no_space other))
+
+    pub feed_after : (0 < length after → get_or after 0 0 ≡ space → ⊥) → at + length w < length text → get_or text (at + length w) 0 ≡ line_feed
+    feed_after other l = rw word_length (feeds (omega (arith, word_length)) (no_space other (omega (arith, word_length))))
 
 -- where the cursor stands is where the scan does
 pub place_is : (due : Bool) (n at : ℕ) (bs : List ℕ) → (due ≡ false → LineStops bs) → place (scan_at due n (cut line_feed at bs)) ≡ at
@@ -116,11 +165,18 @@ place_is false n at [] h = add-zero at
 place_is false n at (b ∷ bs) h = rw (eq-eqb b line_feed (h refl)) (add-zero at)
 
 pub place_here : (due : Bool) (n at : ℕ) (text : List ℕ) → (due ≡ false → at < length text → get_or text at 0 ≡ line_feed) → place (scan_at due n (cut line_feed at (drop at text))) ≡ at
-place_here due n at text h =
-    place_is due n at (drop at text) (λ e. stopped (drop at text) (λ l. get_or-drop at text 0 0 ∙ ap (λ (i : ℕ). get_or text i 0) (add-zero at) ∙ h e (omega (arith, length-drop at text))))
+place_here due n at text h = place_is due n at (drop at text) (λ e. stops_at at text (h e))
 
-pub feeds : (b : ℕ) → separates b ≡ true → (b ≡ space → ⊥) → b ≡ line_feed
-feeds b s other = ⊎_elim (λ e. absurd (other (eqb-true b space e))) (eqb-true b line_feed) (or_cases (eqb b space) (eqb b line_feed) s)
+pub number_is : (due : Bool) (n at : ℕ) (bs : List ℕ) → (scan_at due n (cut line_feed at bs)).number ≡ n
+number_is true n at bs = rw (first line_feed at bs).is
+number_is false n at bs = rw (first line_feed at bs).is
+
+-- a cursor's position
+pub cursor_position : (t : Inside) → IsCursor t → record { line = t.line; place = place_of t.ahead } ≡ position (scan_of t)
+cursor_position t h =
+    let due = is_token t.ahead in
+    let at = place_of t.ahead in
+    λ i. record { line = sym (number_is due t.line at (drop at t.text.now)) i; place = sym (place_here due t.line at t.text.now h.over) i }
 
 -- before its last token a line does not end
 pub close_due : (n at : ℕ) (bs : List ℕ) → close (scan_at true n (cut line_feed at bs)) ≡ refused (broken (scan_at true n (cut line_feed at bs)))
@@ -159,6 +215,35 @@ over_is n at (b ∷ bs) = ends (eqb b line_feed) refl
     ends true e = rw (e, f.is)
     ends false e = rw (e, f.is) (spaced (eqb b space) refl)
 
-pub number_is : (due : Bool) (n at : ℕ) (bs : List ℕ) → (scan_at due n (cut line_feed at bs)).number ≡ n
-number_is true n at bs = rw (first line_feed at bs).is
-number_is false n at bs = rw (first line_feed at bs).is
+past_end : (text : List ℕ) (at : ℕ) → leb (length text) at ≡ is_nil (drop at text)
+past_end text at = go (drop at text) (length-drop at text)
+  where
+    go : (bs : List ℕ) → length bs ≡ length text - at → leb (length text) at ≡ is_nil bs
+    go [] h = le-leb (length text) at (omega arith)
+    go (b ∷ bs) h = lt-leb (length text) at (omega arith)
+
+-- at a token, a cursor's text is over where nothing is left of it
+pub cursor_over : (t : Inside) (at : ℕ) → t.ahead ≡ Token at → leb (length t.text.now) at ≡ over (scan_of t)
+cursor_over t at e = past_end t.text.now at ∙ sym (ap over (cursor_at t (Token at) e) ∙ over_is t.line at (drop at t.text.now))
+
+-- past its last token, a cursor's line ends where a line feed stands
+pub cursor_closes : (t : Inside) → IsCursor t → (e : ℕ) → t.ahead ≡ LineEnd e → e < length t.text.now
+    → took tt (scan_of (record { text = t.text; line = t.line + 1; ahead = Token (e + 1) })) ≡ close (scan_of t)
+cursor_closes t h e is l =
+    let over = rw is at h.over in
+    let bytes : drop e t.text.now ≡ line_feed ∷ drop (e + 1) t.text.now =
+    drop_more t.text.now e 0 l ∙ ap (λ (b : ℕ). b ∷ drop (e + 1) t.text.now) (over refl l) in
+    sym (ap close (cursor_at t (LineEnd e) is)
+    ∙ ap (λ (bs : List ℕ). close (scan_at false t.line (cut line_feed e bs))) bytes
+    ∙ close_feed t.line e (drop (e + 1) t.text.now)
+    ∙ rw (← add-one t.line, ← add-one e))
+
+-- and is refused where nothing is left, or a token is
+pub cursor_past : (t : Inside) (e : ℕ) → t.ahead ≡ LineEnd e → length t.text.now ≤ e → refused (broken (scan_of t)) ≡ close (scan_of t)
+cursor_past t e is l =
+    let here = cursor_at t (LineEnd e) is ∙ ap (λ (bs : List ℕ). scan_at false t.line (cut line_feed e bs)) (drop_all e t.text.now l) in
+    subst (λ (s : Scan). refused (broken s) ≡ close s) (sym here) (sym (close_past t.line e))
+
+pub cursor_due : (t : Inside) (at : ℕ) → t.ahead ≡ Token at → refused (broken (scan_of t)) ≡ close (scan_of t)
+cursor_due t at is =
+    subst (λ (s : Scan). refused (broken s) ≡ close s) (sym (cursor_at t (Token at) is)) (sym (close_due t.line at (drop at t.text.now)))

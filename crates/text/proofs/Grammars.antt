@@ -1,5 +1,5 @@
 -- A grammar read at a scan reads the tokens that stand there.
-use Rattle.std.proofs.Common.{◌≡◌, ℕ, List, [], ◌∷◌, ◌++◌, map, Some, None, Option, refl, ap, ◌∙◌, arith}
+use Rattle.std.proofs.Common.{◌≡◌, ℕ, List, [], ◌∷◌, ◌++◌, map, Some, None, Option, refl, ap, ◌∙◌}
 use Rattle.text.specs.Cut.{Piece}
 use Rattle.text.specs.Scan.{Scan, took, then, one, one_of, valued, broken, with_tokens}
 use Rattle.text.specs.Grammar.{Grammar, done, field, take, StandsAt}
@@ -32,7 +32,7 @@ module _ {X Y : Type 0} (f : List ℕ → Option Y) (go : Y → Grammar X) (x : 
   module _ (rest : (y : Y) (a : Scan) → take (go y) a ≡ took x z → SpelledThere (go y) a z x) (s : Scan) where
     by_value : (t : Piece) (ts : List Piece) → s.tokens ≡ t ∷ ts → (o : Option Y) → f t.bytes ≡ o
         → then (valued (broken s) o (with_tokens s ts)) (λ y a. take (go y) a) ≡ took x z → SpelledThere (field f go) s z x
-    by_value t ts q None p e = let i : ◌≡◌ {A = ℕ} 0 1 = cc in absurd (omega arith)
+    by_value t ts q None p e = cc
     by_value t ts q (Some y) p e =
         let h = rest y (with_tokens s ts) e in
         let w = h.stand.whole in
@@ -48,18 +48,18 @@ module _ {X Y : Type 0} (f : List ℕ → Option Y) (go : Y → Grammar X) (x : 
         }
 
     by_tokens : (ts : List Piece) → s.tokens ≡ ts → then (one_of f s ts) (λ y a. take (go y) a) ≡ took x z → SpelledThere (field f go) s z x
-    by_tokens [] q e = let i : ◌≡◌ {A = ℕ} 0 1 = cc in absurd (omega arith)
+    by_tokens [] q e = cc
     by_tokens (t ∷ ts) q e = by_value t ts q (f t.bytes) refl e
 
   module _ (ws : List (List ℕ)) (rest : (y : Y) (a : Scan) → spells (go y) ws ≡ Some x → StandsAt a ws z → take (go y) a ≡ took x z) where
     onward : (t : Piece) (front : List Piece) → map (λ t. t.bytes) front ≡ ws → (o : Option Y) → bound o (λ y. spells (go y) ws) ≡ Some x
         → then (valued (broken (with_tokens z (t ∷ front ++ z.tokens))) o (with_tokens z (front ++ z.tokens))) (λ y a. take (go y) a) ≡ took x z
-    onward t front i None e = let n : ◌≡◌ {A = ℕ} 0 1 = cc in absurd (omega arith)
+    onward t front i None e = cc
     onward t front i (Some y) e = rest y (with_tokens z (front ++ z.tokens)) e (record { front = front; is = i; whole = refl })
 
     at_token : (s : Scan) (w : List ℕ) (front : List Piece) → bound (f w) (λ y. spells (go y) ws) ≡ Some x → map (λ t. t.bytes) front ≡ w ∷ ws
         → s ≡ with_tokens z (front ++ z.tokens) → then (one f s) (λ y a. take (go y) a) ≡ took x z
-    at_token s w [] e i q = let n : ◌≡◌ {A = ℕ} 0 1 = cc in absurd (omega arith)
+    at_token s w [] e i q = cc
     at_token s w (t ∷ front) e i q =
         let first : t.bytes ≡ w = cc in
         let others : map (λ t. t.bytes) front ≡ ws = cc in
@@ -76,8 +76,8 @@ spelled_taken (done y) s z x [] e h = at_end h.front h.is h.whole
   where
     at_end : (front : List Piece) → map (λ t. t.bytes) front ≡ [] → s ≡ with_tokens z (front ++ z.tokens) → took y s ≡ took x z
     at_end [] i w = let v : y ≡ x = cc in λ j. took (v j) (w j)
-    at_end (t ∷ front) i w = let n : ◌≡◌ {A = ℕ} 0 1 = cc in absurd (omega arith)
-spelled_taken (done y) s z x (w ∷ ws) e h = let i : ◌≡◌ {A = ℕ} 0 1 = cc in absurd (omega arith)
-spelled_taken (field f go) s z x [] e h = let i : ◌≡◌ {A = ℕ} 0 1 = cc in absurd (omega arith)
+    at_end (t ∷ front) i w = cc
+spelled_taken (done y) s z x (w ∷ ws) e h = cc
+spelled_taken (field f go) s z x [] e h = cc
 spelled_taken (field f go) s z x (w ∷ ws) e h =
     at_token f go x z ws (λ y a p q. spelled_taken (go y) a z x ws p q) s w h.front e h.is h.whole

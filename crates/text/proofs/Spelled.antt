@@ -18,15 +18,12 @@ pub record Reads {Y : Type 0} (f : List ℕ → Option Y) (Proper : Y → Type 0
   pub back : (y : Y) → Proper y → f (word y) ≡ Some y
   pub clear : (y : Y) → Proper y → NoSeparator (word y)
 
-none_some : {Y : Type 0} {y : Y} → None ≡ Some y → ⊥
-none_some e = grind arith
-
 some_same : {Y : Type 0} {x y : Y} → Some x ≡ Some y → x ≡ y
 some_same e = cc
 
 cond_some : {Y : Type 0} (t : Bool) {x y : Y} → cond t (Some x) None ≡ Some y → (t ≡ true) × (x ≡ y)
 cond_some true e = (refl, some_same e)
-cond_some false e = absurd (none_some e)
+cond_some false e = cc
 
 -- C holds of all tokens that g reads, with their value
 pub record Only {X : Type 0} (g : Grammar X) (C : List (List ℕ) → X → Type 0) : Type 0 where
@@ -43,7 +40,7 @@ module _ {X : Type 0} where
     where
       go : (ws : List (List ℕ)) (y : X) → spells (done x) ws ≡ Some y → C ws y
       go [] y e = subst (C []) (some_same e) c
-      go (w ∷ ws) y e = absurd (none_some e)
+      go (w ∷ ws) y e = cc
 
   pub gives_done : {x : X} → Gives (done x) [] x
   gives_done = record { read = refl; unbroken = tt }
@@ -53,13 +50,13 @@ module _ {X : Type 0} where
     only_field {C} h = record { holds = split }
       where
         first : (w : List ℕ) (ws : List (List ℕ)) (x : X) (o : Option Y) → f w ≡ o → bound o (λ y. spells (go y) ws) ≡ Some x → C (w ∷ ws) x
-        first w ws x None q e = absurd (none_some e)
+        first w ws x None q e = cc
         first w ws x (Some y) q e =
             let (p, same) = r.only w y q in
             subst (λ v. C (v ∷ ws) x) (sym same) ((h y p).holds ws x e)
 
         split : (ws : List (List ℕ)) (x : X) → spells (field f go) ws ≡ Some x → C ws x
-        split [] x e = absurd (none_some e)
+        split [] x e = cc
         split (w ∷ ws) x e = first w ws x (f w) refl e
 
     pub gives_field : {y : Y} {ws : List (List ℕ)} {x : X} → Proper y → Gives (go y) ws x → Gives (field f go) (word y ∷ ws) x
@@ -129,18 +126,18 @@ below_suc : (n : ℕ) → below_zero (Some (suc n)) ≡ Some (negsuc n)
 below_suc n = rw (ne_eqb (suc n) 0 (omega arith))
 
 signed_only : (w : List ℕ) (z : ℤ) → signed_word w ≡ Some z → SFits w32 z × (w ≡ signed_decimal z)
-signed_only [] z e = absurd (none_some e)
+signed_only [] z e = cc
 signed_only (c ∷ cs) z e = go (eqb c minus) refl e
   where
     above : (o : Option ℕ) → natural 2147483647 (c ∷ cs) ≡ o → not_below_zero o ≡ Some z → SFits w32 z × (c ∷ cs ≡ signed_decimal z)
-    above None q e = absurd (none_some e)
+    above None q e = cc
     above (Some n) q e =
         let (h, same) = natural_only 2147483647 (omega arith) (c ∷ cs) n q in
         subst (λ z. SFits w32 z × (c ∷ cs ≡ signed_decimal z)) (some_same e) (record { sfits = omega arith }, same)
 
     below : (o : Option ℕ) → c ≡ minus → natural 2147483648 cs ≡ o → below_zero o ≡ Some z → SFits w32 z × (c ∷ cs ≡ signed_decimal z)
-    below None m q e = absurd (none_some e)
-    below (Some zero) m q e = absurd (none_some e)
+    below None m q e = cc
+    below (Some zero) m q e = cc
     below (Some (suc n)) m q e =
         let (h, same) = natural_only 2147483648 (omega arith) cs (suc n) q in
         subst (λ z. SFits w32 z × (c ∷ cs ≡ signed_decimal z)) (some_same (sym (below_suc n) ∙ e)) (record { sfits = omega arith }, cc)
@@ -175,7 +172,7 @@ the_numbers v small =
     n = naturals v small
 
     only : (w : List ℕ) (o : Option ℕ) {u : Unit {0}} → natural v w ≡ o → if_same v o ≡ Some u → w ≡ decimal v
-    only w None q e = absurd (none_some e)
+    only w None q e = cc
     only w (Some m) q e = (n.only w m q).1 ∙ ap decimal (eqb-true m v (cond_some (eqb m v) e).0)
 
 -- a v of one digit
@@ -183,11 +180,11 @@ pub the_digits : (v : ℕ) → v < 10 → Reads (the_number v) (λ _. Unit {0}) 
 the_digits v small = subst (λ w. Reads (the_number v) (λ _. Unit {0}) (λ _. w)) (decimal_digit v small) (the_numbers v (omega arith))
 
 pub letter_only : (w : List ℕ) (c : ℕ) → letter w ≡ Some c → (is_text (c ∷ []) ≡ true) × (w ≡ c ∷ [])
-letter_only [] c e = absurd (none_some e)
+letter_only [] c e = cc
 letter_only (b ∷ []) c e =
     let (t, v) = cond_some (is_text (b ∷ [])) e in
     (ap (λ c. is_text (c ∷ [])) (sym v) ∙ t, ap (λ c. c ∷ []) v)
-letter_only (b ∷ d ∷ cs) c e = absurd (none_some e)
+letter_only (b ∷ d ∷ cs) c e = cc
 
 pub letter_back : (c : ℕ) → is_text (c ∷ []) ≡ true → letter (c ∷ []) ≡ Some c
 letter_back c h = rw h
@@ -206,7 +203,7 @@ letters {Y} f code l =
     }
   where
     only : (w : List ℕ) (y : Y) (o : Option ℕ) → letter w ≡ o → meant f o ≡ Some y → w ≡ code y ∷ []
-    only w y None q e = absurd (none_some e)
+    only w y None q e = cc
     only w y (Some c) q e = (letter_only w c q).1 ∙ ap (λ c. c ∷ []) (l.only c y e)
 
 zero_word : Reads (the_number 0) (λ _. Unit {0}) (λ _. codes "0")

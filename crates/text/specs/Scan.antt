@@ -1,7 +1,9 @@
 -- Where the reading of a text stands, and its two steps: one token, and the end of a line.
 use Rattle.std.specs.Prelude.{ℕ, suc, ◌+◌, Bool, false, List, [], ◌∷◌, length, Some, None, Ok, Err, Option, Result}
 use Rattle.model.specs.declared.Cause.TheVariants.{Form}
+use Rattle.model.specs.declared.Position.{Position}
 use Rattle.model.specs.declared.Refusal.{Refusal}
+use Rattle.model.specs.Refusals.{refused_at}
 use Rattle.text.specs.Cut.{Piece, cut, space, line_feed}
 use Rattle.text.specs.Readers.{is_nil}
 
@@ -32,6 +34,10 @@ first_place end (t ∷ ts) = t.place
 abbrev pub place : Scan → ℕ
 place s = first_place s.end s.tokens
 
+-- the line and that place
+abbrev pub position : Scan → Position
+position s = record { line = s.number; place = place s }
+
 -- what came of a step: a value and where the reading stands then, or a refusal
 pub data Taken (X : Type 0) : Type 0 where
   took : X → Scan → Taken X
@@ -48,7 +54,7 @@ then (refused r) go = refused r
 
 -- the form is broken where the reading stands
 abbrev pub broken : Scan → Refusal
-broken s = record { cause = Form; line = s.number; place = place s }
+broken s = refused_at Form (position s)
 
 abbrev pub with_tokens : Scan → List Piece → Scan
 with_tokens s ts = record { number = s.number; tokens = ts; end = s.end; below = s.below }

@@ -1,44 +1,34 @@
-ghost use Rattle.std.specs.Prelude.{◌≡◌, ◌+◌, ◌<◌, ◌≤◌, true, length, MatchBool, ◌≢◌, slice_index};
-ghost use Rattle.std.specs.Str.{bytes_eq};
+ghost use Rattle.std.specs.Prelude.{◌≡◌, ◌+◌, ◌≤◌, IsTrue, length, if◌then◌else◌, Ok, Err};
+ghost use Rattle.std.specs.List.{position_or_len};
 ghost use Rattle.model.specs.declared.Cause.TheVariants.{Form};
-ghost use Rattle.text.specs.Scan.{start, taken, one, close, place, over, broken};
+ghost use Rattle.model.specs.Refusals.{refused_at};
+ghost use Rattle.text.specs.Scan.{start, taken, one, close, position, over, broken};
 ghost use Rattle.text.specs.Readers.{natural, signed_word, optional, letter, the_letter, the_number, exactly};
-ghost use Rattle.text.specs.Meaning.{scan_of, bytes_of, Shaped, Next, TokenEnd};
+ghost use Rattle.text.specs.Shape.{bytes_of, is_shaped};
+ghost use Rattle.text.specs.Cut.{separates};
+ghost use Rattle.text.specs.Meaning.{Next};
 
-use crate::numbers::{natural_value, signed_value};
-use crate::tokens::{Placed, Token, Tokens};
-use model::{Cause, Refusal};
+use crate::tokens::{Ahead, Placed, Token, Tokens};
+use model::{Cause, Position, Refusal};
 
-// The first place from `at` on with a space or a line feed, or the text's end.
-fn token_end(text: &[u8], at: usize) -> usize
-    requires { at ≤ length text.now }
-    ensures { TokenEnd text.now at result }
+// How many bytes come before the first space or line feed, or the end.
+fn token_length(rest: &[u8]) -> usize
+    ensures value { result ≡ position_or_len separates rest.now }
+    ensures most { result ≤ length rest.now }
 {
-    let mut end = at;
-    while end < text.len() && text[end] != b' ' && text[end] != b'\n' {
-        end += 1;
-    }
-    end
-}
-
-// Whether the byte stands at the place.
-fn stands_at(text: &[u8], at: usize, byte: u8) -> bool
-    ensures { MatchBool result ((at < length text.now) × (slice_index text.now at ≡ byte)) (at < length text.now → slice_index text.now at ≢ byte) }
-{
-    at < text.len() && text[at] == byte
+    rest.iter()
+        .take_while(|b| !matches!(b, b' ' | b'\n'))
+        .count()
 }
 
 // A token by its first byte.
 fn shape(word: &[u8]) -> Token<'_>
     ensures bytes { bytes_of result ≡ word.now }
-    ensures shape { Shaped result }
+    ensures shape { IsTrue (is_shaped result) }
 {
-    if word.is_empty() {
-        return Token::Text(word);
-    }
-    match word[0] {
-        b'-' => Token::Negative(&word[1..]),
-        b'0'..=b'9' => Token::Numeral(word),
+    match word {
+        [b'-', digits @ ..] => Token::Negative(digits),
+        [b'0'..=b'9', ..] => Token::Numeral(word),
         _ => Token::Text(word),
     }
 }
@@ -46,183 +36,159 @@ fn shape(word: &[u8]) -> Token<'_>
 impl<'a> Tokens<'a> {
     // A cursor at the start of the text's first line.
     pub fn new(text: &'a [u8]) -> Tokens<'a>
-        ensures { scan_of result ≡ start text.now }
+        ensures { result ≡ start text.now }
     {
         Tokens {
             text,
-            at: 0,
             line: 1,
-            due: true,
+            ahead: Ahead::Token(0),
         }
     }
 
-    // The number of the line.
-    pub fn line(&self) -> usize
-        ensures { result ≡ (scan_of self.now).number }
+    // The line, and the place of its next token or, past the last one, of the line's end.
+    #[tactic(auto, using(crate::proofs::Cuts::cursor_position))]
+    pub fn position(&self) -> Position
+        ensures value { result ≡ position self.now }
+        ensures counted { result.line ≤ result.place + 1 }
     {
-        self.line
-    }
-
-    // The place of the line's next token or, past the last one, of the line's end.
-    pub fn place(&self) -> usize
-        ensures { result ≡ place (scan_of self.now) }
-    {
-        self.at
+        Position {
+            line: self.line,
+            place: self.ahead.place(),
+        }
     }
 
     // The refusal for a form that is broken here.
     pub fn broken(&self) -> Refusal
-        ensures { result ≡ broken (scan_of self.now) }
+        ensures { result ≡ broken self.now }
     {
-        Refusal {
-            cause: Cause::Form,
-            line: self.line(),
-            place: self.place(),
-        }
+        self.position().refused(Cause::Form)
     }
 
     // The line's next token, or a broken form where it has none.
     fn next(&mut self) -> Result<Placed<'a>, Refusal>
-        ensures { Next (scan_of self.old) result (scan_of self.new) }
+        ensures { Next self.old result self.new }
     {
-        if !self.due {
+        let Ahead::Token(from) = self.ahead else {
             return Err(self.broken());
-        }
-        let line = self.line;
-        let from = self.at;
-        let to = token_end(self.text, from);
-        let token = shape(&self.text[from..to]);
-        if stands_at(self.text, to, b' ') {
-            self.at = to + 1;
-        } else {
-            self.at = to;
-            self.due = false;
-        }
-        Ok(Placed {
-            token,
-            line,
-            place: from,
-        })
+        };
+        let position = self.position();
+        let rest = &self.text[from..];
+        let (word, after) = rest.split_at(token_length(rest));
+        let end = from + word.len();
+        self.ahead = match after {
+            [b' ', ..] => Ahead::Token(end + 1),
+            _ => Ahead::LineEnd(end),
+        };
+        let token = shape(word);
+        Ok(Placed { token, position })
     }
 }
 
 impl Placed<'_> {
     // The refusal for a form that this token breaks.
     fn broken(&self) -> Refusal
-        ensures { result ≡ (record { cause = Form; line = self.now.line; place = self.now.place }) }
+        ensures { result ≡ refused_at Form self.now.position }
     {
-        Refusal {
-            cause: Cause::Form,
-            line: self.line,
-            place: self.place,
-        }
+        self.position.refused(Cause::Form)
     }
 }
 
-fn are_same(a: &[u8], b: &[u8]) -> bool
-    ensures { result ≡ bytes_eq a.now b.now }
+// Refuses what is not as expected.
+fn require<T: PartialEq + Copy>(found: T, expected: T, refusal: Refusal) -> Result<(), Refusal>
+    ensures { result ≡ (if T.eq found expected then Ok tt else Err refusal) }
 {
-    a == b
+    if found == expected {
+        Ok(())
+    } else {
+        Err(refusal)
+    }
 }
 
+// Each reads the next token by a method of its own; a function over those would have to say by a closure's results what one
+// line says here.
 impl Tokens<'_> {
     // The next token as a number from 0 to `most`.
     pub fn natural(&mut self, most: u32) -> Result<u32, Refusal>
-        ensures { taken result (scan_of self.new) ≡ one (natural most) (scan_of self.old) }
+        ensures { taken result self.new ≡ one (natural most) self.old }
     {
         let next = self.next()?;
-        match next.token {
-            Token::Numeral(digits) => natural_value(digits, most).ok_or(next.broken()),
-            _ => Err(next.broken()),
-        }
+        next.natural(most).ok_or(next.broken())
     }
 
     // The next token as a signed word; only a number below 0 has a minus sign.
     pub fn signed(&mut self) -> Result<i32, Refusal>
-        ensures { taken result (scan_of self.new) ≡ one signed_word (scan_of self.old) }
+        ensures { taken result self.new ≡ one signed_word self.old }
     {
         let next = self.next()?;
-        signed_value(next.token).ok_or(next.broken())
+        next.signed().ok_or(next.broken())
     }
 
     // The next token as a number from 0 to `most`, or a lone minus sign, for none.
     pub fn optional(&mut self, most: u32) -> Result<Option<u32>, Refusal>
-        ensures { taken result (scan_of self.new) ≡ one (optional most) (scan_of self.old) }
+        ensures { taken result self.new ≡ one (optional most) self.old }
     {
         let next = self.next()?;
-        match next.token {
-            Token::Negative(digits) if digits.is_empty() => Ok(None),
-            Token::Numeral(digits) => match natural_value(digits, most) {
-                Some(n) => Ok(Some(n)),
-                None => Err(next.broken()),
-            },
-            _ => Err(next.broken()),
-        }
+        next.optional(most).ok_or(next.broken())
     }
 
     // The next token as a letter: one byte that is neither a digit nor a minus sign.
     pub fn letter(&mut self) -> Result<char, Refusal>
-        ensures { taken result (scan_of self.new) ≡ one letter (scan_of self.old) }
+        ensures { taken result self.new ≡ one letter self.old }
     {
         let next = self.next()?;
-        match next.token {
-            Token::Text(word) if word.len() == 1 => Ok(word[0] as char),
-            _ => Err(next.broken()),
-        }
+        next.letter().ok_or(next.broken())
     }
 
     // The next token, which has to be that letter.
     pub fn only_letter(&mut self, expected: char) -> Result<(), Refusal>
-        ensures { taken result (scan_of self.new) ≡ one (the_letter expected) (scan_of self.old) }
+        ensures { taken result self.new ≡ one (the_letter expected) self.old }
     {
         let refusal = self.broken();
-        if self.letter()? == expected {
-            Ok(())
-        } else {
-            Err(refusal)
-        }
+        require(self.letter()?, expected, refusal)
     }
 
     // The next token, which has to be that number.
     pub fn only_number(&mut self, expected: u32) -> Result<(), Refusal>
-        ensures { taken result (scan_of self.new) ≡ one (the_number expected) (scan_of self.old) }
+        ensures { taken result self.new ≡ one (the_number expected) self.old }
     {
         let refusal = self.broken();
-        if self.natural(expected)? == expected {
-            Ok(())
-        } else {
-            Err(refusal)
-        }
+        require(self.natural(expected)?, expected, refusal)
     }
 
     // The next token, which has to be that word.
     pub fn keyword(&mut self, expected: &[u8]) -> Result<(), Refusal>
-        ensures { taken result (scan_of self.new) ≡ one (exactly expected.now) (scan_of self.old) }
+        ensures { taken result self.new ≡ one (exactly expected.now) self.old }
     {
         let next = self.next()?;
         match next.token {
-            Token::Text(word) if are_same(word, expected) => Ok(()),
+            Token::Text(word) if word == expected => Ok(()),
             _ => Err(next.broken()),
         }
     }
 
     // The end of the line: no token is left, and a line feed stands there.
+    #[tactic(auto, using(crate::proofs::Cuts::cursor_closes, crate::proofs::Cuts::cursor_past, crate::proofs::Cuts::cursor_due))]
     pub fn end_line(&mut self) -> Result<(), Refusal>
-        ensures { taken result (scan_of self.new) ≡ close (scan_of self.old) }
+        ensures { taken result self.new ≡ close self.old }
     {
-        if self.due || self.at >= self.text.len() {
-            return Err(self.broken());
+        match self.ahead {
+            Ahead::LineEnd(end) if end < self.text.len() => {
+                self.line += 1;
+                self.ahead = Ahead::Token(end + 1);
+                Ok(())
+            }
+            _ => Err(self.broken()),
         }
-        self.at += 1;
-        self.line += 1;
-        self.due = true;
-        Ok(())
     }
 
     // At the start of a line: whether nothing is left of the text.
+    #[tactic(auto, using(crate::proofs::Cuts::cursor_over))]
     pub fn is_over(&self) -> bool
-        ensures { result ≡ over (scan_of self.now) }
+        ensures { result ≡ over self.now }
     {
-        self.due && self.at >= self.text.len()
+        match self.ahead {
+            Ahead::Token(at) => at >= self.text.len(),
+            Ahead::LineEnd(_) => false,
+        }
     }
 }

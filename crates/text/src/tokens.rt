@@ -1,8 +1,13 @@
-ghost use Rattle.std.specs.Prelude.{◌≡◌, ◌+◌, ◌<◌, ◌≤◌, false, length, slice_index};
+ghost use Rattle.std.specs.Prelude.{◌≡◌, IsTrue};
+ghost use Rattle.text.specs.Ahead.{place_of};
+ghost use Rattle.text.specs.Shape.{is_shaped};
+
+use model::Position;
+use std::marker::Model;
 
 // A token of a line, by its shape, as the part of the text that it borrows.
 #[derive(Clone, Copy)]
-pub enum Token<'a> {
+pub(crate) enum Token<'a> {
     // begins with a digit
     Numeral(&'a [u8]),
     // begins with a minus sign; what follows it
@@ -11,25 +16,50 @@ pub enum Token<'a> {
     Text(&'a [u8]),
 }
 
-// A token, with its line and its place in the text.
+// A token, with where it stands in the text.
 #[derive(Clone, Copy)]
-pub struct Placed<'a> {
-    pub token: Token<'a>,
-    pub line: usize,
-    pub place: usize,
+pub(crate) struct Placed<'a> {
+    pub(crate) token: Token<'a>,
+    pub(crate) position: Position,
+    ghost shaped: { IsTrue (is_shaped token) },
+}
+
+// What stands next in a line, and its place.
+#[derive(Clone, Copy)]
+pub(crate) enum Ahead {
+    Token(usize),
+    // past the line's last token
+    LineEnd(usize),
+}
+
+impl Ahead {
+    pub(crate) fn place(self) -> usize
+        ensures { result ≡ place_of self }
+    {
+        match self {
+            Ahead::Token(place) | Ahead::LineEnd(place) => place,
+        }
+    }
 }
 
 // A cursor over the tokens of a text, line by line. After a refusal nothing is said of where it stands.
 #[derive(Drop)]
 pub struct Tokens<'a> {
+    // the whole text, since places count from its start
     pub(crate) text: &'a [u8],
-    // the place of the next token or, past the last one of a line, of the line's end
-    pub(crate) at: usize,
     // the line's number, from 1
     pub(crate) line: usize,
-    // whether the line has a token at `at`
-    pub(crate) due: bool,
-    ghost within: { at ≤ length text.now },
-    ghost counted: { line ≤ at + 1 },
-    ghost over: { due ≡ false → at < length text.now → slice_index text.now at ≡ 10 },
+    pub(crate) ahead: Ahead,
+}
+
+impl<'a> Model for Tokens<'a> {
+    ghost use Rattle.text.specs.Scan.{Scan};
+
+    ghost Value = { Scan };
+
+    ghost use Rattle.text.specs.Cursor.{scan_of, IsCursor};
+
+    ghost view = { scan_of };
+
+    ghost invariant = { IsCursor };
 }

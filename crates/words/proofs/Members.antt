@@ -1,54 +1,17 @@
 -- What tests, counts and masks of a set tell of its members, and back.
-use Rattle.std.proofs.Common.{◌≡◌, ℕ, zero, suc, ◌+◌, ◌-◌, ◌*◌, ◌/◌, ◌%◌, ◌^◌, ◌<◌, ◌≤◌, Bool, true, false, cond, not, ◌&&◌, ◌||◌, T, eqb, sym, refl, ap, ◌∙◌, subst, ap₂, inl, inr, pow-suc, arith, T_not}
+use Rattle.std.proofs.Common.{◌≡◌, ℕ, zero, suc, ◌+◌, ◌^◌, ◌<◌, ◌≤◌, Bool, true, false, cond, not, ◌&&◌, ◌||◌, T, eqb, sym, refl, ap, ◌∙◌, subst, ap₂, inl, inr, pow-suc, arith, T_not}
 use lib.Dec.{not_T}
 use lib.Count.{ones, ones_cat}
 use lib.Ieee.Fits.{and_i, and_l, and_r}
-use lib.Pow.{field, mod-mod-pow}
-use Rattle.std.proofs.lemmas.Nat.{mod-pow-add, shr_high, mod_low}
 use Rattle.std.proofs.lemmas.Bool.{cases_eq}
+use Rattle.std.proofs.lemmas.Bool.Decides.{nat_tests}
+use Rattle.std.proofs.lemmas.Nat.Bits.{bit_at_cat_low, bit_at_cat_high}
 use Rattle.words.specs.Sets.{Set, bits, every, count, mask, is_empty, is_subset, is_disjoint, size, word}
-
--- tests that imply each other are equal
-pub same_test : (a b : Bool) → (T a → T b) → (T b → T a) → a ≡ b
-same_test true true f g = refl
-same_test true false f g = absurd (f tt)
-same_test false true f g = absurd (g tt)
-same_test false false f g = refl
-
--- a number with one digit more at place k
-abbrev topped : Bool → ℕ → ℕ → ℕ
-topped b k m = cond b 1 0 * 2 ^ k + m
-
-topped_below : (b : Bool) (k m : ℕ) → m < 2 ^ k → topped b k m < 2 ^ suc k
-topped_below true k m h = omega (arith, pow-suc 2 k)
-topped_below false k m h = omega (arith, pow-suc 2 k)
 
 digit_ones : (b : Bool) → ones (cond b 1 0) ≡ cond b 1 0
 unfolding ones
 digit_ones true = refl
 digit_ones false = refl
-
-topped_both : (b : Bool) (k m n : ℕ) → m + n + 1 ≡ 2 ^ k → topped (not b) k m + topped b k n + 1 ≡ 2 ^ suc k
-topped_both true k m n e = omega (arith, pow-suc 2 k)
-topped_both false k m n e = omega (arith, pow-suc 2 k)
-
-digit_both : (b : Bool) (m n k : ℕ) → m + n ≡ k → (cond (not b) 1 0 + m) + (cond b 1 0 + n) ≡ suc k
-digit_both true m n k e = omega arith
-digit_both false m n k e = omega arith
-
-digit_apart : (a b : Bool) (m n k : ℕ) → T (not (a && b)) → m + n ≤ k → (cond a 1 0 + m) + (cond b 1 0 + n) ≤ suc k
-digit_apart true true m n k h l = absurd h
-digit_apart true false m n k h l = omega arith
-digit_apart false true m n k h l = omega arith
-digit_apart false false m n k h l = omega arith
-
-implied : (x y : Bool) → T (not x || y) → T x → T y
-implied true y t m = t
-implied false y t m = absurd m
-
-implies : (x y : Bool) → (T x → T y) → T (not x || y)
-implies true y h = h tt
-implies false y h = tt
 
 module _ (p : Set) where
   pub every_each : (k : ℕ) → T (every k p) → (n : ℕ) → n < k → T (p n)
@@ -68,7 +31,7 @@ module _ (p : Set) where
   pub mask_below : (k : ℕ) → mask k p < 2 ^ k
   unfolding mask
   mask_below zero = omega arith
-  mask_below (suc k) = topped_below (p k) k (mask k p) (mask_below k)
+  mask_below (suc k) = grind (arith, pow-suc 2 k, mask_below k)
 
   pub count_ones : (k : ℕ) → ones (mask k p) ≡ count k p
   unfolding mask count ones
@@ -79,76 +42,36 @@ module _ (p : Set) where
   pub count_not : (k : ℕ) → count k (λ n. not (p n)) + count k p ≡ k
   unfolding count
   count_not zero = refl
-  count_not (suc k) = digit_both (p k) (count k (λ n. not (p n))) (count k p) k (count_not k)
+  count_not (suc k) = grind (arith, count_not k)
 
-  pub mask_not : (k : ℕ) → mask k (λ n. not (p n)) + mask k p + 1 ≡ 2 ^ k
-  unfolding mask
-  mask_not zero = refl
-  mask_not (suc k) = topped_both (p k) k (mask k (λ n. not (p n))) (mask k p) (mask_not k)
+  bits_mask : (k n : ℕ) → n < k → bits (mask k p) n ≡ p n
+  unfolding mask bits
+  bits_mask zero n l = absurd (omega arith)
+  bits_mask (suc k) n l =
+      elim (cases_eq n k) [
+        | inl e ↦ grind (arith, nat_tests, bit_at_cat_high (cond (p k) 1 0) k (mask k p) k (mask_below k))
+        | inr d ↦ ap (λ x. eqb x 1) (bit_at_cat_low (cond (p k) 1 0) k (mask k p) n (omega arith)) ∙ bits_mask k n (omega arith)
+      ]
 
 module _ (p q : Set) where
-  pub every_same : (k : ℕ) → ((n : ℕ) → n < k → p n ≡ q n) → every k p ≡ every k q
-  unfolding every
-  every_same zero h = refl
-  every_same (suc k) h = ap₂ (λ a b. a && b) (h k (omega arith)) (every_same k (λ n l. h n (omega arith)))
-
-  pub count_same : (k : ℕ) → ((n : ℕ) → n < k → p n ≡ q n) → count k p ≡ count k q
+  count_same : (k : ℕ) → ((n : ℕ) → n < k → p n ≡ q n) → count k p ≡ count k q
   unfolding count
   count_same zero h = refl
   count_same (suc k) h = ap₂ (λ b m. cond b 1 0 + m) (h k (omega arith)) (count_same k (λ n l. h n (omega arith)))
-
-  pub mask_same : (k : ℕ) → ((n : ℕ) → n < k → p n ≡ q n) → mask k p ≡ mask k q
-  unfolding mask
-  mask_same zero h = refl
-  mask_same (suc k) h = ap₂ (λ b m. cond b 1 0 * 2 ^ k + m) (h k (omega arith)) (mask_same k (λ n l. h n (omega arith)))
 
   -- sets that share no member have together no more than all
   pub count_disjoint : (k : ℕ) → ((n : ℕ) → n < k → T (not (p n && q n))) → count k p + count k q ≤ k
   unfolding count
   count_disjoint zero h = omega arith
-  count_disjoint (suc k) h = digit_apart (p k) (q k) (count k p) (count k q) k (h k (omega arith)) (count_disjoint k (λ n l. h n (omega arith)))
-
-digit_is : (x : ℕ) → x < 2 → cond (eqb x 1) 1 0 ≡ x
-digit_is zero h = refl
-digit_is (suc zero) h = refl
-digit_is (suc (suc x)) h = absurd (omega arith)
-
-pub mask_bits : (k w : ℕ) → mask k (bits w) ≡ w % 2 ^ k
-unfolding mask bits
-mask_bits zero w = omega arith
-mask_bits (suc k) w =
-    ap₂ (λ b m. b * 2 ^ k + m) (digit_is (w / 2 ^ k % 2) (omega arith)) (mask_bits k w) ∙ sym (mod-pow-add w 1 k) ∙ ap (λ e. w % 2 ^ e) (omega arith)
-
--- a bit below k is that of the number's rest by 2 ^ k
-bit_of_rest : (x k n : ℕ) → n < k → x / 2 ^ n % 2 ≡ x % 2 ^ k / 2 ^ n % 2
-bit_of_rest x k n l =
-    let j : ℕ = k - suc n in
-    let whole : j + (1 + n) ≡ k = omega arith in
-    sym (field x 1 n) ∙ ap (λ y. y / 2 ^ n) (sym (mod-mod-pow x j (1 + n)) ∙ ap (λ e. x % 2 ^ e % 2 ^ (1 + n)) whole) ∙ field (x % 2 ^ k) 1 n
-
-bit_of_digit : (b : Bool) → eqb (cond b 1 0 % 2) 1 ≡ b
-bit_of_digit true = refl
-bit_of_digit false = refl
-
-bits_mask : (p : Set) (k n : ℕ) → n < k → bits (mask k p) n ≡ p n
-unfolding mask bits
-bits_mask p zero n l = absurd (omega arith)
-bits_mask p (suc k) n l =
-    let below = mask_below p k in
-    elim (cases_eq n k) [
-      | inl e ↦ ap (λ m. eqb (mask (suc k) p / 2 ^ m % 2) 1) e ∙ ap (λ x. eqb (x % 2) 1) (shr_high (cond (p k) 1 0) k (mask k p) below) ∙ bit_of_digit (p k) ∙ ap p (sym e)
-      | inr d ↦
-          let low : n < k = omega arith in
-          ap (λ x. eqb x 1) (bit_of_rest (mask (suc k) p) k n low ∙ ap (λ x. x / 2 ^ n % 2) (mod_low (cond (p k) 1 0) k (mask k p) below)) ∙ bits_mask p k n low
-    ]
+  count_disjoint (suc k) h = grind (arith, h k (omega arith), count_disjoint k (λ n l. h n (omega arith)))
 
 -- the tests of words, member by member
 module _ (p q : Set) where
   pub subset_each : T (is_subset p q) → (n : ℕ) → n < 32 → T (p n) → T (q n)
-  subset_each t n l m = implied (p n) (q n) (every_each (λ n. not (p n) || q n) 32 t n l) m
+  subset_each t n l m = grind (arith, every_each (λ n. not (p n) || q n) 32 t n l)
 
   pub each_subset : ((n : ℕ) → n < 32 → T (p n) → T (q n)) → T (is_subset p q)
-  each_subset h = each_every (λ n. not (p n) || q n) 32 (λ n l. implies (p n) (q n) (h n l))
+  each_subset h = each_every (λ n. not (p n) || q n) 32 (λ n l. grind (arith, h n l))
 
   pub disjoint_each : T (is_disjoint p q) → (n : ℕ) → n < 32 → T (p n) → T (q n) → ⊥
   disjoint_each t n l m k = T_not (p n && q n) (every_each (λ n. not (p n && q n)) 32 t n l) (and_i _ _ m k)

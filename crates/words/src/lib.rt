@@ -4,58 +4,114 @@
 ghost use Rattle.std.specs.Prelude.{◌≡◌, ◌≤◌};
 ghost use Rattle.words.specs.Sets.{bits, word, insert, union_of, difference_of, is_empty, is_subset, is_disjoint, size};
 
-// Whether the number is a member.
-pub fn contains(set: u32, n: u32) -> bool
-    ensures { result ≡ bits set n }
-{
-    n < 32 && set >> n & 1 == 1
+use std::marker::Model;
+
+// A set of the numbers 0 to 31; contracts see it as the number of its word.
+#[derive(Clone, Copy)]
+pub struct WordSet {
+    word: u32,
 }
 
-// The set with one member more; a number past 31 adds nothing.
-pub fn insert(set: u32, n: u32) -> u32
-    ensures { result ≡ word (insert (bits set) n) }
-{
-    if n < 32 { set | 1 << n } else { set }
+// Every word is a set's: the invariant is the range of the field's type.
+impl Model for WordSet {
+    ghost use Rattle.std.specs.Prelude.{ℕ, ◌^◌, ◌<◌};
+
+    ghost Value = { ℕ };
+
+    ghost view = { λ a. a.word };
+
+    ghost invariant = { λ a. a.word < 2 ^ 32 };
+
+    ghost inverse = { λ n. record { word = n } };
 }
 
-// The members of either set.
-pub fn union(a: u32, b: u32) -> u32
-    ensures { result ≡ union_of a b }
-{
-    a | b
+// The set that the word stands for.
+impl From<u32> for WordSet {
+    ghost from_gives = { λ word set. set ≡ word };
+
+    fn from(word: u32) -> WordSet {
+        WordSet { word }
+    }
 }
 
-// The members of the first set that the second has not.
-pub fn difference(a: u32, b: u32) -> u32
-    ensures { result ≡ difference_of a b }
-{
-    a & !b
+// The word that stands for the set.
+impl From<WordSet> for u32 {
+    ghost from_gives = { λ set word. word ≡ set };
+
+    fn from(set: WordSet) -> u32 {
+        set.word
+    }
 }
 
-pub fn is_empty(set: u32) -> bool
-    ensures { result ≡ is_empty (bits set) }
-{
-    set == 0
-}
+impl WordSet {
+    // Whether the number is a member.
+    #[tactic(auto, using(crate::proofs::Bits::contains_word, crate::proofs::Bits::contains_past))]
+    pub fn contains(self, n: u32) -> bool
+        ensures { result ≡ bits self n }
+    {
+        n < 32 && self.word >> n & 1 == 1
+    }
 
-// Whether the second set has all members of the first.
-pub fn is_subset(a: u32, b: u32) -> bool
-    ensures { result ≡ is_subset (bits a) (bits b) }
-{
-    a & b == a
-}
+    // Makes the number a member; a number past 31 changes nothing.
+    #[tactic(auto, using(crate::proofs::Bits::insert_word, crate::proofs::Bits::insert_past))]
+    pub fn insert(&mut self, n: u32)
+        ensures { self.new ≡ word (insert (bits self.old) n) }
+    {
+        if n < 32 {
+            self.word |= 1 << n;
+        }
+    }
 
-// Whether the sets share no member.
-pub fn is_disjoint(a: u32, b: u32) -> bool
-    ensures { result ≡ is_disjoint (bits a) (bits b) }
-{
-    a & b == 0
-}
+    // The members of either set.
+    #[tactic(auto, using(crate::proofs::Bits::union_word))]
+    pub fn union(self, other: WordSet) -> WordSet
+        ensures { result ≡ union_of self other }
+    {
+        WordSet {
+            word: self.word | other.word,
+        }
+    }
 
-// How many members the set has.
-pub fn count(set: u32) -> u32
-    ensures value { result ≡ size (bits set) }
-    ensures most { result ≤ 32 }
-{
-    set.count_ones()
+    // The members of this set that the other has not.
+    #[tactic(auto, using(crate::proofs::Bits::difference_word))]
+    pub fn difference(self, other: WordSet) -> WordSet
+        ensures { result ≡ difference_of self other }
+    {
+        WordSet {
+            word: self.word & !other.word,
+        }
+    }
+
+    // Whether the set has no member.
+    #[tactic(auto, using(crate::proofs::Bits::empty_word))]
+    pub fn is_empty(self) -> bool
+        ensures { result ≡ is_empty (bits self) }
+    {
+        self.word == 0
+    }
+
+    // Whether the other set has all members of this one.
+    #[tactic(auto, using(crate::proofs::Bits::subset_word))]
+    pub fn is_subset(self, other: WordSet) -> bool
+        ensures { result ≡ is_subset (bits self) (bits other) }
+    {
+        self.word & other.word == self.word
+    }
+
+    // Whether the sets share no member.
+    #[tactic(auto, using(crate::proofs::Bits::disjoint_word))]
+    pub fn is_disjoint(self, other: WordSet) -> bool
+        ensures { result ≡ is_disjoint (bits self) (bits other) }
+    {
+        self.word & other.word == 0
+    }
+
+    // How many members the set has.
+    #[tactic(auto, using(crate::proofs::Bits::count_word))]
+    pub fn count(self) -> u32
+        ensures value { result ≡ size (bits self) }
+        ensures most { result ≤ 32 }
+    {
+        self.word.count_ones()
+    }
 }

@@ -1,30 +1,89 @@
-use Rattle.std.proofs.Common.{◌≡◌, ◌+◌, Bool, true, false, drop, sym, ap, ◌∙◌}
-use Rattle.text.specs.Cut.{cut, line_feed}
-use Rattle.text.specs.Meaning.{scan_of, scan_at, before}
-use Rattle.text.proofs.Cuts.{found_space, found_end, feeds, number_is}
+use Rattle.std.proofs.Common.{◌≡◌, ℕ, ◌+◌, ◌-◌, ◌<◌, true, false, List, length, get_or, take, drop, sym, refl, ap, ◌∙◌, arith}
+use Rattle.std.specs.List.{position_or_len}
+use Rattle.std.proofs.lemmas.List.{length-drop, drop-drop, take_all}
+use Rattle.model.specs.declared.Position.{Position}
+use Rattle.text.specs.declared.tokens.Ahead.TheVariants.{Token, LineEnd}
+use Rattle.text.specs.declared.tokens.Tokens.TheInside.{Inside}
+use Rattle.text.specs.Ahead.{place_of}
+use Rattle.text.specs.Cut.{cut, space, line_feed, separates}
+use Rattle.text.specs.Scan.{Scan, position}
+use Rattle.text.specs.Cursor.{scan_of, scan_at}
+use Rattle.text.specs.Meaning.{before}
+use Rattle.text.proofs.Cuts.{cursor_at, piece, count, found, word_length, after_length, next_space, next_end, feed_after, place_here}
 use Rattle.text.proofs.tokens.Tokens.next.Goals as goal
-use Rattle.text.proofs.tokens.Tokens.next.Goals.{then-stands_at, else-stands_at}
+use Rattle.text.proofs.tokens.Tokens.next.Goals.{in-32, in_default-after, in_default-after-2}
+
+-- the rest of the text, the word that is cut off there, and the bytes after it
+module _ (at k : ℕ) (text w after : List ℕ) (value : k ≡ position_or_len separates (take (length text - at) (drop at text)))
+    (front : w ≡ take k (take (length text - at) (drop at text))) (back : after ≡ drop k (take (length text - at) (drop at text))) where
+  whole : take (length text - at) (drop at text) ≡ drop at text
+  whole = take_all (length text - at) (drop at text) (omega (arith, length-drop at text))
+
+  counted : k ≡ count at text
+  counted = value ∙ ap (position_or_len separates) whole
+
+  word : w ≡ found at text
+  word = front ∙ (λ i. take (counted i) (whole i))
+
+  rest : after ≡ drop (at + count at text) text
+  rest = back ∙ (λ i. drop (counted i) (whole i)) ∙ drop-drop (count at text) at text
+
+  -- the cursor past that word
+  module _ (t z : Inside) (same : z.text.now ≡ text) (line : z.line ≡ t.line) where
+    due_next : z.ahead ≡ Token (at + length w + 1) → 0 < length after → get_or after 0 0 ≡ space
+        → scan_at true t.line (cut line_feed at (drop at text)) ≡ before (scan_of z) (piece at w)
+    due_next e l h =
+        next_space at text w after word rest t.line l h
+        ∙ (λ i. before (scan_at true (sym line i) (cut line_feed (at + length w + 1) (drop (at + length w + 1) (sym same i)))) (piece at w))
+        ∙ ap (λ (y : Scan). before y (piece at w)) (sym (cursor_at z (Token (at + length w + 1)) e))
+
+    end_next : z.ahead ≡ LineEnd (at + length w) → (0 < length after → get_or after 0 0 ≡ space → ⊥)
+        → scan_at true t.line (cut line_feed at (drop at text)) ≡ before (scan_of z) (piece at w)
+    end_next e other =
+        next_end at text w after word rest t.line other
+        ∙ (λ i. before (scan_at false (sym line i) (cut line_feed (at + length w) (drop (at + length w) (sym same i)))) (piece at w))
+        ∙ ap (λ (y : Scan). before y (piece at w)) (sym (cursor_at z (LineEnd (at + length w)) e))
+
+pub invariant_of-self : goal.invariant_of-self
+invariant_of-self c =
+    let text = c.self.inside.text.now in
+    let at = c.in-Token.from in
+    let v = c.token_length.ensures.value in
+    let s = c.split_at.ensures in
+    let is = word at _ text _ _ v s.front s.back in
+    let after = rest at _ text _ _ v s.front s.back in
+    let here : place_of c.self.inside.ahead ≡ at = ap place_of c.in-Token.is in
+    let long = word_length at text _ _ is after in
+    let left = after_length at text _ _ is after in
+    let fits = ap length is in
+    elim c.if-after-lt1.branch [
+      | in-32 w ↦ rw w.self-is (record { within = omega arith; counted = omega arith; over = λ e l. cc })
+      | in_default-after w ↦ rw w.self-is (record { within = omega arith; counted = omega arith; over = λ e l. absurd (omega arith) })
+      | in_default-after-2 w ↦
+          rw w.self-is (record {
+            within = omega arith;
+            counted = omega arith;
+            over = λ e l. feed_after at text _ _ is after (λ m h. omega arith) l;
+          })
+    ]
 
 pub returns : goal.returns
 returns c =
-    let t = c.args.self.now in
-    let e = c.token_end-to.result in
-    let w = c.token_end-to.ensures in
-    let is_due = c.if-not-self.false in
-    let entry : scan_of t ≡ scan_at true t.line (cut line_feed t.at (drop t.at t.text.now)) =
-    ap (λ (d : Bool). scan_at d t.line (cut line_feed t.at (drop t.at t.text.now))) is_due in
-    let bytes = sym c.shape-token.ensures.bytes in (
-      elim c.if-stands_at.branch [
-        | then-stands_at x ↦
-            let stands = x.if-stands_at.ensures in
-            let exit : scan_of c.if-stands_at.self ≡ scan_at true t.line (cut line_feed (e + 1) (drop (e + 1) t.text.now)) =
-            ap scan_of x.self-is ∙ ap (λ (d : Bool). scan_at d t.line (cut line_feed (e + 1) (drop (e + 1) t.text.now))) is_due in
-            entry ∙ found_space t.line t.at e t.text.now w stands.0 stands.1 ∙ (λ i. before (sym exit i) (record { place = t.at; bytes = bytes i }))
-        | else-stands_at x ↦
-            let exit : scan_of c.if-stands_at.self ≡ scan_at false t.line (cut line_feed e (drop e t.text.now)) = ap scan_of x.self-is in
-            entry ∙ found_end t.line t.at e t.text.now w (λ l. feeds _ (w.stops l) (x.if-stands_at.ensures l))
-            ∙ (λ i. before (sym exit i) (record { place = t.at; bytes = bytes i }))
+    let t = c.self.inside in
+    let text = t.text.now in
+    let at = c.in-Token.from in
+    let v = c.token_length.ensures.value in
+    let s = c.split_at.ensures in
+    let z : Inside = record { text = t.text; line = t.line; ahead = c.if-after-lt1.self } in
+    let here : c.args.self.now ≡ scan_at true t.line (cut line_feed at (drop at text)) = sym c.self.view_is ∙ cursor_at t (Token at) c.in-Token.is in
+    let stands : c.position-position.result ≡ position (scan_at true t.line (cut line_feed at (drop at text))) = c.position-position.ensures.value ∙ ap position here in
+    let placed : c.position-position.result.place ≡ at = ap (λ (p : Position). p.place) stands ∙ place_here true t.line at text (λ e. cc) in
+    let shown : before (scan_of z) (piece at c.split_at.result.0.now) ≡ before (scan_of z) (record { place = c.position-position.result.place; bytes = _ }) =
+    λ i. before (scan_of z) (record { place = sym placed i; bytes = sym c.shape-token.ensures.bytes i }) in (
+      elim c.if-after-lt1.branch [
+        | in-32 w ↦ here ∙ due_next at _ text _ _ v s.front s.back t z refl refl w.self-is (omega arith) (omega arith) ∙ shown
+        | in_default-after w ↦ here ∙ end_next at _ text _ _ v s.front s.back t z refl refl w.self-is (λ m h. omega arith) ∙ shown
+        | in_default-after-2 w ↦ here ∙ end_next at _ text _ _ v s.front s.back t z refl refl w.self-is (λ m h. omega arith) ∙ shown
       ],
-      sym (number_is t.due t.line t.at (drop t.at t.text.now)),
-      c.shape-token.ensures.shape,
+      ap (λ (p : Position). p.line) c.position-position.ensures.value,
     )

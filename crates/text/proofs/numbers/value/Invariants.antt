@@ -1,7 +1,7 @@
 use Rattle.std.proofs.Common.{◌≡◌, ◌≤◌, drop}
 use Rattle.text.specs.Readers.{natural}
 use Rattle.text.proofs.Values.{within_from}
-use Rattle.text.proofs.numbers.natural_value.Given as goal
+use Rattle.text.proofs.numbers.value.Given as goal
 
 -- what is left of the digits has still to give the answer
 abbrev pub invariant-loop-d : goal.invariant-loop-d

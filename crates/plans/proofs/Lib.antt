@@ -1,4 +1,0 @@
-pub mod Steps
-pub mod Moves
-pub mod Fitting
-pub mod Whole
