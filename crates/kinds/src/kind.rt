@@ -4,7 +4,7 @@ ghost use Rattle.model.specs.Kind.{Kind as Answers, Laws};
 use model::Rating;
 
 // A kind of guard: its facts, guards and actions, and six questions about them. Asking changes nothing.
-// Stores and datums are words of two parameters, since a store is kept by a run and a datum comes with a report.
+// Store and datum are two parameters, since a store is kept by a run and a datum comes with a report.
 pub trait Kind {
     type Fact: Copy;
 

@@ -21,6 +21,7 @@ fn input(rt: &HostRuntime) -> io::Result<Vec<u8>> {
     Ok(text)
 }
 
+// The calls are those of any program that reads a plan; what is printed is this one's own.
 fn list<K: Spelling>(rt: &(impl Print + AllocGlobal), text: &[u8]) -> anyhow::Result<()> {
     let heap = rt.alloc();
     let mut plan: Plan<K> = Plan::new(heap);

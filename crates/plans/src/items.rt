@@ -2,7 +2,7 @@
 ghost use Rattle.std.specs.Prelude.{◌≡◌};
 ghost use Rattle.text.specs.Scan.{taken};
 ghost use Rattle.plans.specs.Meaning.{plan_of};
-ghost use Rattle.syntax.specs.Items.{bad_of, point_of, arc_of, edge_of, bad_item, arc_item, edge_item, item};
+ghost use Rattle.syntax.specs.Items.{last, bad_of, point_of, arc_of, edge_of, bad_item, arc_item, edge_item, item};
 
 use crate::plan::Plan;
 use kinds::{Kind, Spelling};
@@ -19,12 +19,19 @@ const MOST_EDGES: usize = 256;
 pub(crate) type ItemOf<K> = Item<<K as Kind>::Fact, <K as Kind>::Guard, <K as Kind>::Action>;
 
 impl<K: Spelling> Plan<K> {
+    // The last of the bad states, or 0.
+    #[tactic(auto, using(crate::proofs::Last::last_read))]
+    fn last_bad(&self) -> u8
+        ensures { result ≡ last 0 (plan_of self.now).bad }
+    {
+        self.bad.last().copied().unwrap_or(0)
+    }
+
     // A bad state is above the one before it, and so never 0.
     fn bad_of(&self, state: Named) -> Result<u8, Refusal>
         ensures { result ≡ bad_of (plan_of self.now) state }
     {
-        let last = self.bad.last().copied().unwrap_or(0);
-        if u32::from(last) < state.number {
+        if u32::from(self.last_bad()) < state.number {
             state.within(self.states)
         } else {
             Err(state.refused(Cause::Name))
@@ -107,7 +114,7 @@ impl<K: Spelling> Plan<K> {
         Ok(Item::Edge(self.edge_of(line)?))
     }
 
-    // What the next line adds. Its letter says what it is, as the format has it, and so picks the reader.
+    // What the next line adds. Its letter is matched against characters, as the format has it, to choose the reader.
     pub(crate) fn read_item(&self, tokens: &mut Tokens<'_>) -> Result<ItemOf<K>, Refusal>
         ensures { taken result tokens.new ≡ item K.Kind.answers K.Spelling.formats (plan_of self.now) tokens.old }
     {

@@ -4,7 +4,7 @@ ghost use Rattle.std.specs.Prelude.{◌<◌, ◌≤◌, length, IfSome};
 use anyhow::Context;
 use std::alloc::Global;
 
-// A digit in base sixteen, in lower case alone, which `to_digit` does not ask for.
+// A digit in base sixteen, in lower case alone (`to_digit` takes upper case too).
 fn hex_digit(byte: u8) -> Option<u8>
     ensures { IfSome result (λ digit. digit < 16) }
 {
@@ -56,7 +56,7 @@ fn split_at_mark<'a>(notation: &'a [u8], mark: &[u8; 2]) -> Option<(&'a [u8], &'
 }
 
 // The number that a notation begins with, which is 0 where there is none, and the notation after it. A number that is too
-// large stays at the largest, which `parse` does not give.
+// large stays at the largest (`parse` would refuse it).
 fn split_number(notation: &[u8]) -> (u32, &[u8])
     ensures { length result.1.now ≤ length notation.now }
 {

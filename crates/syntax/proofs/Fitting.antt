@@ -70,7 +70,7 @@ module _ {F G A : Type 0} (k : Kind F G A) (f : Spelling F G A) (p : Plan F G A)
         let t = test_ok (ltb (length p.edges) 256) _ (too_many s) j.1 in
         let r = and_then_ok (edge_of p j.0) _ t.1 in
         subst P (ok_same r.second) (edge j.0 r.value t.0 r.first))
-        (λ b. let n : ◌≡◌ {A = ℕ} 0 1 = cc b.1 in absurd (omega arith))
+        (λ b. cc b.1)
         (cond_cases (eqb c 101) _ _ d.1))
         (cond_cases (eqb c 97 && is_nil p.edges) _ _ e.1))
         (cond_cases (eqb c 98 && (is_nil p.arcs && is_nil p.edges)) _ _ h)

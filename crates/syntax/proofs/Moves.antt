@@ -92,7 +92,7 @@ module _ {F G A : Type 0} (k : Kind F G A) (f : Spelling F G A) where
         (λ d. line_next a (arc_line f a) _ (keeps_arc a) d.1)
         (λ d. ⊎_elim
         (λ b. line_next a (edge_line f a) _ (keeps_edge a) b.1)
-        (λ b. let i : ◌≡◌ {A = ℕ} 0 1 = cc b.1 in absurd (omega arith))
+        (λ b. cc b.1)
         (cond_cases (eqb c 101) _ _ d.1))
         (cond_cases (eqb c 97 && is_nil p.edges) _ _ e.1))
         (cond_cases (eqb c 98 && (is_nil p.arcs && is_nil p.edges)) _ _ h)

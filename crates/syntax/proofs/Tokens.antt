@@ -167,9 +167,7 @@ optional_number (c ∷ cs) n e = rw (and_left (eqb c minus) (is_nil cs) (other (
     other : (t : Bool) → eqb c minus ≡ t → eqb c minus ≡ false
     other false p = p
     other true p =
-        let none : None ≡ Some n = ap (λ b. natural largest (b ∷ cs)) (sym (eqb-true c minus p)) ∙ e in
-        let i : ◌≡◌ {A = ℕ} 0 1 = cc in
-        absurd (omega arith)
+        let none : None ≡ Some n = ap (λ b. natural largest (b ∷ cs)) (sym (eqb-true c minus p)) ∙ e in cc
 
 pub optional_back : (o : Option ℕ) → OptionalSmall o → optional largest (optional_token o) ≡ Some o
 optional_back None p = refl
