@@ -9,6 +9,7 @@ ghost use Rattle.approvals.specs.Spelled.{spelling, facts, largest};
 ghost use Rattle.text.specs.Scan.{taken, one};
 ghost use Rattle.text.specs.Readers.{natural};
 ghost use Rattle.text.specs.Grammar.{take};
+ghost use Rattle.text.specs.Cursor.{scan_of};
 ghost use Rattle.approvals.specs.Laws;
 ghost use Rattle.approvals.specs.Laws.{stays, datums, empties, idles, rates};
 ghost use Rattle.approvals.specs.Readable.{facts_read, guards_read, actions_read};
@@ -33,14 +34,14 @@ impl Pattern {
     fn matches(&self, word: WordSet) -> bool
         ensures { result ≡ matches self.now word }
     {
-        self.ones.is_subset(word) && self.zeros.is_disjoint(word)
+        WordSet::from(self.ones).is_subset(word) && WordSet::from(self.zeros).is_disjoint(word)
     }
 
     // Whether a bit is asked both ways, so that no word matches.
     fn is_contradictory(&self) -> bool
         ensures { result ≡ contradictory self.now }
     {
-        !self.ones.is_disjoint(self.zeros)
+        !WordSet::from(self.ones).is_disjoint(self.zeros.into())
     }
 
     // What both patterns ask.
@@ -48,8 +49,8 @@ impl Pattern {
         ensures { result ≡ both a b }
     {
         Pattern {
-            ones: a.ones.union(b.ones),
-            zeros: a.zeros.union(b.zeros),
+            ones: WordSet::from(a.ones).union(b.ones.into()).into(),
+            zeros: WordSet::from(a.zeros).union(b.zeros.into()).into(),
         }
     }
 
@@ -57,14 +58,15 @@ impl Pattern {
     fn asks_nothing(&self) -> bool
         ensures { result ≡ asks_nothing self.now }
     {
-        self.ones.is_empty() && self.zeros.is_empty()
+        WordSet::from(self.ones).is_empty() && WordSet::from(self.zeros).is_empty()
     }
 
     // Whether the other asks all that this one does.
     fn is_implied_by(&self, other: Pattern) -> bool
         ensures { result ≡ implied_by self.now other }
     {
-        self.ones.is_subset(other.ones) && self.zeros.is_subset(other.zeros)
+        WordSet::from(self.ones).is_subset(other.ones.into())
+            && WordSet::from(self.zeros).is_subset(other.zeros.into())
     }
 }
 
@@ -108,17 +110,17 @@ impl Kind for Approvals {
     }
 
     fn makes(action: &Action, store: u32, _datum: u32) -> u32 {
-        let store = WordSet::from(store);
-        store.union(action.up).difference(action.down).into()
+        let (up, down) = (WordSet::from(action.up), WordSet::from(action.down));
+        WordSet::from(store).union(up).difference(down).into()
     }
 
     fn is_idle(action: &Action) -> bool {
-        action.up.is_empty() && action.down.is_empty()
+        WordSet::from(action.up).is_empty() && WordSet::from(action.down).is_empty()
     }
 
     fn rate(guard: &Guard, fact: &Pattern) -> Rating {
         if guard.store.is_contradictory()
-            || guard.least > 32 - guard.store.zeros.count()
+            || guard.least > 32 - WordSet::from(guard.store.zeros).count()
             || Pattern::both(guard.datum, *fact).is_contradictory()
         {
             Rating::Never
@@ -140,10 +142,10 @@ pub fn worked_cases()
 {}
 
 // A mask is spelled by its number.
-fn mask(tokens: &mut Tokens<'_>) -> Result<WordSet, Refusal>
-    ensures { taken result tokens.new ≡ one (natural largest) tokens.old }
+fn mask(tokens: &mut Tokens<'_>) -> Result<u32, Refusal>
+    ensures { taken result (scan_of tokens.new) ≡ one (natural largest) (scan_of tokens.old) }
 {
-    Ok(WordSet::from(tokens.natural(LARGEST)?))
+    tokens.natural(LARGEST)
 }
 
 impl Spelling for Approvals {

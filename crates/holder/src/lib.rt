@@ -8,6 +8,7 @@ ghost use Rattle.holder.specs.Holder.{holder, largest, is_user, meets, empty};
 ghost use Rattle.holder.specs.Spelled.{spelling};
 ghost use Rattle.text.specs.Scan.{taken, one};
 ghost use Rattle.text.specs.Readers.{natural};
+ghost use Rattle.text.specs.Cursor.{scan_of};
 ghost use Rattle.holder.specs.Laws.{stores_fit, datums_fit, begins, stays, datums, empties, idles, rates};
 ghost use Rattle.holder.specs.Readable.{facts_read, guards_read, actions_read};
 
@@ -130,7 +131,7 @@ pub fn worked_cases()
 
 // The number of a user, or 0.
 fn user(tokens: &mut Tokens<'_>) -> Result<u16, Refusal>
-    ensures { taken result tokens.new ≡ one (natural largest) tokens.old }
+    ensures { taken result (scan_of tokens.new) ≡ one (natural largest) (scan_of tokens.old) }
 {
     Ok(tokens.natural(LARGEST)? as u16)
 }

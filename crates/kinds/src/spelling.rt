@@ -1,6 +1,7 @@
 ghost use Rattle.std.specs.Prelude.{◌≡◌};
 ghost use Rattle.text.specs.Scan.{taken};
 ghost use Rattle.text.specs.Grammar.{take};
+ghost use Rattle.text.specs.Cursor.{scan_of};
 ghost use Rattle.kinds.specs.Spelling.{Spelling as Formats, ReadableParts};
 
 use crate::kind::Kind;
@@ -18,15 +19,15 @@ pub trait Spelling: Kind {
 
     // The fact that the next tokens spell.
     fn fact(tokens: &mut Tokens<'_>) -> Result<Self::Fact, Refusal>
-        ensures { taken result tokens.new ≡ take formats.facts.grammar tokens.old };
+        ensures { taken result (scan_of tokens.new) ≡ take formats.facts.grammar (scan_of tokens.old) };
 
     // The guard that the next tokens spell.
     fn guard(tokens: &mut Tokens<'_>) -> Result<Self::Guard, Refusal>
-        ensures { taken result tokens.new ≡ take formats.guards.grammar tokens.old };
+        ensures { taken result (scan_of tokens.new) ≡ take formats.guards.grammar (scan_of tokens.old) };
 
     // The action that the next tokens spell.
     fn action(tokens: &mut Tokens<'_>) -> Result<Self::Action, Refusal>
-        ensures { taken result tokens.new ≡ take formats.actions.grammar tokens.old };
+        ensures { taken result (scan_of tokens.new) ≡ take formats.actions.grammar (scan_of tokens.old) };
 
     ghost readable: { ReadableParts formats };
 }

@@ -2,6 +2,7 @@
 ghost use Rattle.std.specs.Prelude.{◌≡◌, true, IfOk};
 ghost use Rattle.model.specs.Plan.{counts};
 ghost use Rattle.text.specs.Scan.{taken};
+ghost use Rattle.text.specs.Cursor.{scan_of};
 ghost use Rattle.lines.specs.Lines.{named, opening, kind_letter, names_kind, count_line, event_line, arc_line, edge_line};
 
 use crate::{ArcLine, EdgeLine, Named, PointLine};
@@ -14,7 +15,7 @@ const LARGEST: u32 = 65535;
 
 // A number with its place.
 pub fn read_named(tokens: &mut Tokens<'_>) -> Result<Named, Refusal>
-    ensures { taken result tokens.new ≡ named tokens.old }
+    ensures { taken result (scan_of tokens.new) ≡ named (scan_of tokens.old) }
 {
     let position = tokens.position();
     let number = tokens.natural(LARGEST)?;
@@ -23,7 +24,7 @@ pub fn read_named(tokens: &mut Tokens<'_>) -> Result<Named, Refusal>
 
 // The first line, with its end.
 pub fn read_opening<K: Spelling>(tokens: &mut Tokens<'_>) -> Result<(), Refusal>
-    ensures { taken result tokens.new ≡ opening K.Spelling.formats tokens.old }
+    ensures { taken result (scan_of tokens.new) ≡ opening K.Spelling.formats (scan_of tokens.old) }
 {
     tokens.keyword(b"plan")?;
     tokens.only_number(1)?;
@@ -50,7 +51,7 @@ pub fn names_kind<K: Spelling>(text: &[u8]) -> bool
 
 // The event and the fact of an arc, or none.
 fn read_point<K: Spelling>(tokens: &mut Tokens<'_>) -> Result<Option<PointLine<K::Fact>>, Refusal>
-    ensures { taken result tokens.new ≡ event_line K.Spelling.formats tokens.old }
+    ensures { taken result (scan_of tokens.new) ≡ event_line K.Spelling.formats (scan_of tokens.old) }
 {
     let start = tokens.position();
     let Some(number) = tokens.optional(LARGEST)? else {
@@ -72,7 +73,7 @@ fn read_point<K: Spelling>(tokens: &mut Tokens<'_>) -> Result<Option<PointLine<K
 
 // An arc's line after its letter, up to its end.
 pub fn read_arc<K: Spelling>(tokens: &mut Tokens<'_>) -> Result<ArcLine<K::Fact>, Refusal>
-    ensures { taken result tokens.new ≡ arc_line K.Spelling.formats tokens.old }
+    ensures { taken result (scan_of tokens.new) ≡ arc_line K.Spelling.formats (scan_of tokens.old) }
 {
     let from = read_named(tokens)?;
     let to = read_named(tokens)?;
@@ -84,7 +85,7 @@ pub fn read_arc<K: Spelling>(tokens: &mut Tokens<'_>) -> Result<ArcLine<K::Fact>
 pub fn read_edge<K: Spelling>(
     tokens: &mut Tokens<'_>,
 ) -> Result<EdgeLine<K::Guard, K::Action>, Refusal>
-    ensures { taken result tokens.new ≡ edge_line K.Spelling.formats tokens.old }
+    ensures { taken result (scan_of tokens.new) ≡ edge_line K.Spelling.formats (scan_of tokens.old) }
 {
     let from = read_named(tokens)?;
     let event = read_named(tokens)?;
@@ -102,7 +103,7 @@ pub fn read_edge<K: Spelling>(
 
 // A line of a letter and a count, with its end.
 pub fn read_count(tokens: &mut Tokens<'_>, letter: char, most: u8) -> Result<u8, Refusal>
-    ensures value { taken result tokens.new ≡ count_line letter most tokens.old }
+    ensures value { taken result (scan_of tokens.new) ≡ count_line letter most (scan_of tokens.old) }
     ensures range { IfOk result (λ n. counts most n ≡ true) }
 {
     tokens.only_letter(letter)?;

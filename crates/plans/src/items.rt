@@ -1,6 +1,7 @@
 // What the lines of a plan text may name, and what they add to a plan.
 ghost use Rattle.std.specs.Prelude.{◌≡◌};
 ghost use Rattle.text.specs.Scan.{taken};
+ghost use Rattle.text.specs.Cursor.{scan_of};
 ghost use Rattle.plans.specs.Meaning.{plan_of};
 ghost use Rattle.syntax.specs.Items.{last, bad_of, point_of, arc_of, edge_of, bad_item, arc_item, edge_item, item};
 
@@ -83,7 +84,7 @@ impl<K: Spelling> Plan<K> {
     }
 
     fn bad_item(&self, tokens: &mut Tokens<'_>) -> Result<ItemOf<K>, Refusal>
-        ensures { taken result tokens.new ≡ bad_item (plan_of self.now) tokens.old }
+        ensures { taken result (scan_of tokens.new) ≡ bad_item (plan_of self.now) (scan_of tokens.old) }
     {
         let state = read_named(tokens)?;
         tokens.end_line()?;
@@ -93,7 +94,7 @@ impl<K: Spelling> Plan<K> {
     // Arcs and edges are read alike, but by functions, a list and a limit of their own: one function for both would take
     // all of those as parameters.
     fn arc_item(&self, tokens: &mut Tokens<'_>, full: Refusal) -> Result<ItemOf<K>, Refusal>
-        ensures { taken result tokens.new ≡ arc_item K.Kind.answers K.Spelling.formats (plan_of self.now) full tokens.old }
+        ensures { taken result (scan_of tokens.new) ≡ arc_item K.Kind.answers K.Spelling.formats (plan_of self.now) full (scan_of tokens.old) }
     {
         let line = read_arc::<K>(tokens)?;
         tokens.end_line()?;
@@ -104,7 +105,7 @@ impl<K: Spelling> Plan<K> {
     }
 
     fn edge_item(&self, tokens: &mut Tokens<'_>, full: Refusal) -> Result<ItemOf<K>, Refusal>
-        ensures { taken result tokens.new ≡ edge_item K.Kind.answers K.Spelling.formats (plan_of self.now) full tokens.old }
+        ensures { taken result (scan_of tokens.new) ≡ edge_item K.Kind.answers K.Spelling.formats (plan_of self.now) full (scan_of tokens.old) }
     {
         let line = read_edge::<K>(tokens)?;
         tokens.end_line()?;
@@ -116,7 +117,7 @@ impl<K: Spelling> Plan<K> {
 
     // What the next line adds. Its letter is matched against characters, as the format has it, to choose the reader.
     pub(crate) fn read_item(&self, tokens: &mut Tokens<'_>) -> Result<ItemOf<K>, Refusal>
-        ensures { taken result tokens.new ≡ item K.Kind.answers K.Spelling.formats (plan_of self.now) tokens.old }
+        ensures { taken result (scan_of tokens.new) ≡ item K.Kind.answers K.Spelling.formats (plan_of self.now) (scan_of tokens.old) }
     {
         let broken = tokens.broken();
         let full = broken.position.refused(Cause::Count);

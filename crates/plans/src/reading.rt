@@ -2,6 +2,7 @@
 ghost use Rattle.std.specs.Prelude.{◌≡◌, OnOk};
 ghost use Rattle.model.specs.Plan.{WellFormed};
 ghost use Rattle.text.specs.Scan.{taken};
+ghost use Rattle.text.specs.Cursor.{scan_of};
 ghost use Rattle.syntax.specs.Items.{added};
 ghost use Rattle.syntax.specs.Reading.{header, reading, too_long, WantsMemory};
 ghost use Rattle.plans.specs.Meaning.{plan_of};
@@ -36,7 +37,7 @@ fn too_long() -> Refusal
 impl<K: Spelling> Plan<K> {
     // The four opening lines.
     fn read_header(heap: Global, tokens: &mut Tokens<'_>) -> Result<Plan<K>, Refusal>
-        ensures { taken (meant result) tokens.new ≡ header K.Spelling.formats tokens.old }
+        ensures { taken (meant result) (scan_of tokens.new) ≡ header K.Spelling.formats (scan_of tokens.old) }
     {
         read_opening::<K>(tokens)?;
         let nodes = read_count(tokens, 'n', MOST_NODES)?;

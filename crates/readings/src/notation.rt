@@ -1,8 +1,8 @@
 // The notation of the texts in a table.
-ghost use Rattle.std.specs.Prelude.{◌<◌, ◌≤◌, length, IfSome};
+ghost use Rattle.std.specs.Prelude.{◌<◌, ◌≤◌, length, IfSome, IfOk};
 
-use anyhow::Context;
-use std::alloc::Global;
+use anyhow::anyhow;
+use std::alloc::{AllocError, Global};
 
 // A digit in base sixteen, in lower case alone (`to_digit` takes upper case too).
 fn hex_digit(byte: u8) -> Option<u8>
@@ -31,17 +31,16 @@ fn split_byte(piece: &[u8]) -> Option<(u8, &[u8])>
     }
 }
 
-// Adds the bytes that a notation without repeats writes.
-fn add_piece(out: &mut Vec<u8>, piece: &[u8]) -> anyhow::Result<()> {
-    let mut rest = piece;
-    while !rest.is_empty() {
-        let (byte, after) = split_byte(rest).context(
-            "the table has a byte that is not in its notation",
-        )?;
+// Adds the bytes that a notation begins with, and gives what is left: nothing, or what writes no byte.
+fn add_bytes<'a>(out: &mut Vec<u8>, notation: &'a [u8]) -> Result<&'a [u8], AllocError>
+    ensures { IfOk result (λ rest. length rest.now ≤ length notation.now) }
+{
+    let mut rest = notation;
+    while let Some((byte, after)) = split_byte(rest) {
         out.push(byte)?;
         rest = after;
     }
-    Ok(())
+    Ok(rest)
 }
 
 // What stands before and after the first such mark. Over bytes, unlike `split_once`, as a repeat passes over one byte after
@@ -92,20 +91,36 @@ fn split_repeat(notation: &[u8]) -> Option<Repeat<'_>>
     Some(Repeat { times, piece, rest })
 }
 
-// The bytes that a notation writes. No escape has a second backslash, so the first `\{` opens a repeat.
+// Adds the bytes of a repeat, and gives what is left of its piece, as `add_bytes` does: the piece is read once, and what it wrote
+// is copied. A piece of nothing is not gone over, however often it is to be written.
+fn add_repeat<'a>(out: &mut Vec<u8>, repeat: &Repeat<'a>) -> Result<&'a [u8], AllocError> {
+    let from = out.len();
+    let rest = add_bytes(out, repeat.piece)?;
+    let to = out.len();
+    if rest.is_empty() && from < to {
+        for _ in 1..repeat.times {
+            out.extend_from_within(from..to)?;
+        }
+    }
+    Ok(rest)
+}
+
+// The bytes that a notation writes. (An error of `context(..)?` would be laid out anew for each repeat, whether it comes or not.)
 pub(crate) fn expand(heap: Global, notation: &[u8]) -> anyhow::Result<Vec<u8>> {
     let mut out = Vec::new(heap);
-    let mut rest = notation;
-    while let Some((piece, after)) = split_at_mark(rest, b"\\{") {
-        add_piece(&mut out, piece)?;
-        let repeat = split_repeat(after).context(
-            "the table has a repeat without its number or its end",
-        )?;
-        for _ in 0..repeat.times {
-            add_piece(&mut out, repeat.piece)?;
+    let mut rest = add_bytes(&mut out, notation)?;
+    while let [b'\\', b'{', after @ ..] = rest {
+        let Some(repeat) = split_repeat(after) else {
+            return Err(anyhow!("the table has a repeat without its number or its end"));
+        };
+        rest = add_repeat(&mut out, &repeat)?;
+        if !rest.is_empty() {
+            break;
         }
-        rest = repeat.rest;
+        rest = add_bytes(&mut out, repeat.rest)?;
     }
-    add_piece(&mut out, rest)?;
+    if !rest.is_empty() {
+        return Err(anyhow!("the table has a byte that is not in its notation"));
+    }
     Ok(out)
 }

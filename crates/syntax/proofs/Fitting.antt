@@ -10,7 +10,7 @@ use Rattle.model.specs.declared.Point.{Point}
 use Rattle.model.specs.declared.Arc.{Arc as Arcs}
 use Rattle.model.specs.declared.Edge.{Edge as Edges}
 use Rattle.model.specs.Kind.{Kind}
-use Rattle.model.specs.Plan.{Plan, rises, bad_in, point_in, arc_in, edge_in, fact_filled, WellFormed}
+use Rattle.model.specs.Plan.{Plan, rises, bad_in, point_in, arc_in, arcs_in, edge_in, edges_in, fact_filled, WellFormed}
 use Rattle.text.specs.Scan.{Scan, Taken, took, refused, taken, then, one, close}
 use Rattle.text.specs.Readers.{letter, is_nil}
 use Rattle.kinds.specs.Spelling.{Spelling}
@@ -21,7 +21,7 @@ use Rattle.lines.specs.declared.EdgeLine.{EdgeLine}
 use Rattle.syntax.specs.declared.Item.{Item}
 use Rattle.syntax.specs.declared.Item.TheVariants.{Bad, Arc, Edge}
 use Rattle.lines.specs.Lines.{at_name, within, named, arc_line, edge_line}
-use Rattle.syntax.specs.Items.{and_then, last, room, too_many, bad_of, point_of, arc_of, edge_of, by_letter, item, added}
+use Rattle.syntax.specs.Items.{and_then, last, room, too_many, bad_of, point_of, arc_of, edge_of, by_letter, item, added, Fits}
 use Rattle.syntax.proofs.Steps.{then_took, taken_took, and_then_ok, test_ok, test_failed, cond_cases, ok_same}
 
 pub all_push : {X : Type 0} (t : X → Bool) (xs : List X) (x : X) → list_all t xs ≡ true → t x ≡ true → list_all t (xs ++ x ∷ []) ≡ true
@@ -44,6 +44,10 @@ within_ok count n h =
 pub judged : {X Y : Type 0} (t : Taken X) (r : X → Result Y Refusal) {y : Y} {z : Scan} → then t (λ x a. then (close a) (λ _ b. taken (r x) b)) ≡ took y z → (x : X) × (r x ≡ Ok y)
 judged (took x a) r h = let p = then_took (close a) _ h in (x, (taken_took (r x) p.at p.second).0)
 judged (refused f) r h = cc
+
+-- no fact is empty
+abbrev pub Filled : {F G A : Type 0} → Kind F G A → Plan F G A → Type 0
+Filled k p = list_all (λ a. fact_filled k a.point) p.arcs ≡ true
 
 module _ {F G A : Type 0} (k : Kind F G A) (f : Spelling F G A) (p : Plan F G A) where
   -- what a taken line has passed, by what it gives
@@ -117,27 +121,32 @@ module _ {F G A : Type 0} (k : Kind F G A) (f : Spelling F G A) (p : Plan F G A)
       (and_from (ltb a.value p.states) _ (within_ok p.states l.from a.first).0
       (and_from (ltb b.value p.events) _ (within_ok p.events l.event b.first).0 (within_ok p.states l.to c.first).0))
 
-  -- the plan with what a taken line gives is well formed again
-  pub item_keeps : (s : Scan) {i : Item F G A} {z : Scan} → WellFormed k p → item k f p s ≡ took i z → WellFormed k (added p i)
-  item_keeps s w =
-      item_cases (λ i. WellFormed k (added p i))
-      (λ n q h. record { sizes = w.sizes; bad_states = bad_fits w.bad_states n q h; own_arcs = w.own_arcs; own_edges = w.own_edges; filled = w.filled })
-      (λ l a few h. record {
-        sizes = w.sizes;
-        bad_states = w.bad_states;
-        own_arcs =
-            and_from (leb (length (p.arcs ++ a ∷ [])) 512) _ (room_push p.arcs a 512 few)
-            (all_push (arc_in p.nodes p.events) p.arcs a (and_parts (leb (length p.arcs) 512) _ w.own_arcs).1 (arc_fits l h).0);
-        own_edges = w.own_edges;
-        filled = all_push (λ x. fact_filled k x.point) p.arcs a w.filled (arc_fits l h).1;
-      })
-      (λ l e few h. record {
-        sizes = w.sizes;
-        bad_states = w.bad_states;
-        own_arcs = w.own_arcs;
-        own_edges =
-            and_from (leb (length (p.edges ++ e ∷ [])) 256) _ (room_push p.edges e 256 few)
-            (all_push (edge_in p.states p.events) p.edges e (and_parts (leb (length p.edges) 256) _ w.own_edges).1 (edge_fits l h));
-        filled = w.filled;
-      })
+  -- what a taken line gives keeps the plan in bounds
+  pub item_fits : (s : Scan) {i : Item F G A} {z : Scan} → bad_in p.states p.bad ≡ true → arcs_in p.nodes p.events p.arcs ≡ true
+      → edges_in p.states p.events p.edges ≡ true → item k f p s ≡ took i z → Fits p i
+  item_fits s bads arcs edges =
+      item_cases (Fits p) (bad_fits bads)
+      (λ l a few h.
+      and_from (leb (length (p.arcs ++ a ∷ [])) 512) _ (room_push p.arcs a 512 few)
+      (all_push (arc_in p.nodes p.events) p.arcs a (and_parts (leb (length p.arcs) 512) _ arcs).1 (arc_fits l h).0))
+      (λ l e few h.
+      and_from (leb (length (p.edges ++ e ∷ [])) 256) _ (room_push p.edges e 256 few)
+      (all_push (edge_in p.states p.events) p.edges e (and_parts (leb (length p.edges) 256) _ edges).1 (edge_fits l h)))
       s
+
+  -- and leaves no fact empty
+  pub item_fills : (s : Scan) {i : Item F G A} {z : Scan} → Filled k p → item k f p s ≡ took i z → Filled k (added p i)
+  item_fills s own =
+      item_cases (λ i. Filled k (added p i)) (λ n q h. own)
+      (λ l a few h. all_push (λ x. fact_filled k x.point) p.arcs a own (arc_fits l h).1)
+      (λ l e few h. own)
+      s
+
+  well_with : WellFormed k p → (i : Item F G A) → Fits p i → Filled k (added p i) → WellFormed k (added p i)
+  well_with w (Bad q) fits filled = record { sizes = w.sizes; bad_states = fits; own_arcs = w.own_arcs; own_edges = w.own_edges; filled = filled }
+  well_with w (Arc a) fits filled = record { sizes = w.sizes; bad_states = w.bad_states; own_arcs = fits; own_edges = w.own_edges; filled = filled }
+  well_with w (Edge e) fits filled = record { sizes = w.sizes; bad_states = w.bad_states; own_arcs = w.own_arcs; own_edges = fits; filled = filled }
+
+  -- so the plan with what a taken line gives is well formed again
+  pub item_keeps : (s : Scan) {i : Item F G A} {z : Scan} → WellFormed k p → item k f p s ≡ took i z → WellFormed k (added p i)
+  item_keeps s {i = i} w h = well_with w i (item_fits s w.bad_states w.own_arcs w.own_edges h) (item_fills s w.filled h)

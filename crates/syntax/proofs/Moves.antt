@@ -1,5 +1,5 @@
 -- Where a step leaves the reading: in its line, or at the start of the next one.
-use Rattle.std.proofs.Common.{◌≡◌, ℕ, true, ◌&&◌, eqb, List, [], ◌∷◌, Some, None, Option, Result, sym, refl, ap, ◌∙◌, ⊎_elim, arith}
+use Rattle.std.proofs.Common.{◌≡◌, ℕ, true, ◌&&◌, eqb, List, [], ◌∷◌, Some, None, Option, Result, sym, refl, ap, ◌∙◌, ⊎_elim}
 use Rattle.model.specs.declared.Refusal.{Refusal}
 use Rattle.model.specs.Kind.{Kind}
 use Rattle.model.specs.Plan.{Plan}

@@ -1,5 +1,5 @@
 -- What the lines of a plan text may name, and what they add to a plan.
-use Rattle.std.specs.Prelude.{ℕ, cond, ◌&&◌, List, [], ◌∷◌, ◌++◌, length, Some, None, Ok, Err, Option, Result, ◌==◌, nat_lt}
+use Rattle.std.specs.Prelude.{◌≡◌, ℕ, true, cond, ◌&&◌, List, [], ◌∷◌, ◌++◌, length, Some, None, Ok, Err, Option, Result, ◌==◌, nat_lt}
 use Rattle.model.specs.declared.Cause.TheVariants.{Count, Name, Empty}
 use Rattle.model.specs.declared.Refusal.{Refusal}
 use Rattle.model.specs.declared.Point.{Point}
@@ -7,7 +7,7 @@ use Rattle.model.specs.declared.Arc.{Arc as Arcs}
 use Rattle.model.specs.declared.Edge.{Edge as Edges}
 use Rattle.model.specs.Kind.{Kind}
 use Rattle.model.specs.Refusals.{refused_at}
-use Rattle.model.specs.Plan.{Plan}
+use Rattle.model.specs.Plan.{Plan, bad_in, arcs_in, edges_in}
 use Rattle.text.specs.Scan.{Scan, Taken, refused, taken, then, one, close, position, broken}
 use Rattle.text.specs.Readers.{letter, is_nil}
 use Rattle.kinds.specs.Spelling.{Spelling}
@@ -58,6 +58,12 @@ module _ {F G A : Type 0} (p : Plan F G A) where
   added (Bad q) = record { nodes = p.nodes; states = p.states; events = p.events; bad = p.bad ++ q ∷ []; arcs = p.arcs; edges = p.edges }
   added (Arc a) = record { nodes = p.nodes; states = p.states; events = p.events; bad = p.bad; arcs = p.arcs ++ a ∷ []; edges = p.edges }
   added (Edge e) = record { nodes = p.nodes; states = p.states; events = p.events; bad = p.bad; arcs = p.arcs; edges = p.edges ++ e ∷ [] }
+
+  -- what a line gives keeps the plan in bounds
+  abbrev pub Fits : Item F G A → Type 0
+  Fits (Bad q) = bad_in p.states (p.bad ++ q ∷ []) ≡ true
+  Fits (Arc a) = arcs_in p.nodes p.events (p.arcs ++ a ∷ []) ≡ true
+  Fits (Edge e) = edges_in p.states p.events (p.edges ++ e ∷ []) ≡ true
 
 module _ {F G A : Type 0} (k : Kind F G A) (p : Plan F G A) where
   -- an event of the plan, and a fact that some datum meets

@@ -7,16 +7,16 @@ use Rattle.std.proofs.lemmas.List.Sums.{fails_before_first, passes_at_first}
 use Rattle.std.proofs.lemmas.Bool.{or_parts, or_cases, eq-eqb, eqb-true, le-leb, lt-leb}
 use Rattle.text.specs.declared.tokens.Ahead.{Ahead}
 use Rattle.text.specs.declared.tokens.Ahead.TheVariants.{Token, LineEnd}
-use Rattle.text.specs.declared.tokens.Tokens.TheInside.{Inside}
+use Rattle.text.specs.declared.tokens.Tokens.{Tokens}
 use Rattle.text.specs.Ahead.{place_of, is_token}
 use Rattle.text.specs.Cut.{Piece, longer, cut, space, line_feed, separates, NoSeparator}
 use Rattle.text.specs.Scan.{Scan, enter, place, position, took, refused, broken, close, over, over_at}
 use Rattle.text.specs.Readers.{is_nil}
-use Rattle.text.specs.Cursor.{scan_of, scan_at, IsCursor}
+use Rattle.text.specs.Cursor.{scan_of, scan_at}
 use Rattle.text.specs.Meaning.{before}
 
 -- a cursor stands where what comes next in it does
-pub cursor_at : (t : Inside) (a : Ahead) → t.ahead ≡ a → scan_of t ≡ scan_at (is_token a) t.line (cut line_feed (place_of a) (drop (place_of a) t.text.now))
+pub cursor_at : (t : Tokens) (a : Ahead) → t.ahead ≡ a → scan_of t ≡ scan_at (is_token a) t.line (cut line_feed (place_of a) (drop (place_of a) t.text.now))
 cursor_at t a e = ap (λ (b : Ahead). scan_at (is_token b) t.line (cut line_feed (place_of b) (drop (place_of b) t.text.now))) e
 
 abbrev pub piece : ℕ → List ℕ → Piece
@@ -88,6 +88,10 @@ stopped (b ∷ bs) h = h (omega arith)
 stops_at : (at : ℕ) (text : List ℕ) → (at < length text → get_or text at 0 ≡ line_feed) → LineStops (drop at text)
 stops_at at text h = stopped (drop at text) (λ l. get_or-drop at text 0 0 ∙ ap (λ (i : ℕ). get_or text i 0) (add-zero at) ∙ h (omega (arith, length-drop at text)))
 
+-- what separates and is no space is a line feed
+pub feeds : (b : ℕ) → separates b ≡ true → (b ≡ space → ⊥) → b ≡ line_feed
+feeds b s other = ⊎_elim (λ e. absurd (other (eqb-true b space e))) (eqb-true b line_feed) (or_cases (eqb b space) (eqb b line_feed) s)
+
 -- the word before the first byte that separates, from `at` on
 module _ (at : ℕ) (text : List ℕ) where
   abbrev pub count : ℕ
@@ -117,18 +121,18 @@ module _ (at : ℕ) (text : List ℕ) where
       ∙ word_space n at found (drop (at + count + 1) text) found_plain
       ∙ ap (λ (i : ℕ). before (scan_at true n (cut line_feed i (drop (at + count + 1) text))) (piece at found)) s
 
-  feeds : at + count < length text → (get_or text (at + count) 0 ≡ space → ⊥) → get_or text (at + count) 0 ≡ line_feed
-  feeds l other =
+  line_ends : at + count < length text → (get_or text (at + count) 0 ≡ space → ⊥) → get_or text (at + count) 0 ≡ line_feed
+  line_ends l other =
       let inside : count < length (drop at text) = omega (arith, length-drop at text, l) in
       let ends : separates (get_or text (at + count) 0) ≡ true =
       ap separates (sym (get_or-drop at text count 0)) ∙ passes_at_first separates (drop at text) 0 inside in
-      ⊎_elim (λ e. absurd (other (eqb-true _ space e))) (eqb-true _ line_feed) (or_cases _ _ ends)
+      feeds _ ends other
 
   pub found_end : (n : ℕ) → (at + count < length text → get_or text (at + count) 0 ≡ space → ⊥)
       → scan_at true n (cut line_feed at (drop at text)) ≡ before (scan_at false n (cut line_feed (at + count) (drop (at + count) text))) (piece at found)
   found_end n h =
       ap (λ (bs : List ℕ). scan_at true n (cut line_feed at bs)) found_rest
-      ∙ word_stops n at found (drop (at + count) text) found_plain (stops_at (at + count) text (λ l. feeds l (h l)))
+      ∙ word_stops n at found (drop (at + count) text) found_plain (stops_at (at + count) text (λ l. line_ends l (h l)))
       ∙ ap (λ (i : ℕ). before (scan_at false n (cut line_feed (at + i) (drop (at + count) text))) (piece at found)) found_length
 
   -- such a word, and the bytes after it
@@ -154,7 +158,7 @@ module _ (at : ℕ) (text : List ℕ) where
     next_end n other = rw (word_length, is) (found_end n (no_space other))
 
     pub feed_after : (0 < length after → get_or after 0 0 ≡ space → ⊥) → at + length w < length text → get_or text (at + length w) 0 ≡ line_feed
-    feed_after other l = rw word_length (feeds (omega (arith, word_length)) (no_space other (omega (arith, word_length))))
+    feed_after other l = rw word_length (line_ends (omega (arith, word_length)) (no_space other (omega (arith, word_length))))
 
 -- where the cursor stands is where the scan does
 pub place_is : (due : Bool) (n at : ℕ) (bs : List ℕ) → (due ≡ false → LineStops bs) → place (scan_at due n (cut line_feed at bs)) ≡ at
@@ -172,11 +176,11 @@ number_is true n at bs = rw (first line_feed at bs).is
 number_is false n at bs = rw (first line_feed at bs).is
 
 -- a cursor's position
-pub cursor_position : (t : Inside) → IsCursor t → record { line = t.line; place = place_of t.ahead } ≡ position (scan_of t)
-cursor_position t h =
+pub cursor_position : (t : Tokens) → record { line = t.line; place = place_of t.ahead } ≡ position (scan_of t)
+cursor_position t =
     let due = is_token t.ahead in
     let at = place_of t.ahead in
-    λ i. record { line = sym (number_is due t.line at (drop at t.text.now)) i; place = sym (place_here due t.line at t.text.now h.over) i }
+    λ i. record { line = sym (number_is due t.line at (drop at t.text.now)) i; place = sym (place_here due t.line at t.text.now t.over) i }
 
 -- before its last token a line does not end
 pub close_due : (n at : ℕ) (bs : List ℕ) → close (scan_at true n (cut line_feed at bs)) ≡ refused (broken (scan_at true n (cut line_feed at bs)))
@@ -223,14 +227,14 @@ past_end text at = go (drop at text) (length-drop at text)
     go (b ∷ bs) h = lt-leb (length text) at (omega arith)
 
 -- at a token, a cursor's text is over where nothing is left of it
-pub cursor_over : (t : Inside) (at : ℕ) → t.ahead ≡ Token at → leb (length t.text.now) at ≡ over (scan_of t)
+pub cursor_over : (t : Tokens) (at : ℕ) → t.ahead ≡ Token at → leb (length t.text.now) at ≡ over (scan_of t)
 cursor_over t at e = past_end t.text.now at ∙ sym (ap over (cursor_at t (Token at) e) ∙ over_is t.line at (drop at t.text.now))
 
 -- past its last token, a cursor's line ends where a line feed stands
-pub cursor_closes : (t : Inside) → IsCursor t → (e : ℕ) → t.ahead ≡ LineEnd e → e < length t.text.now
-    → took tt (scan_of (record { text = t.text; line = t.line + 1; ahead = Token (e + 1) })) ≡ close (scan_of t)
-cursor_closes t h e is l =
-    let over = rw is at h.over in
+pub cursor_closes : (t : Tokens) → (e : ℕ) → t.ahead ≡ LineEnd e → e < length t.text.now
+    → took tt (scan_at true (t.line + 1) (cut line_feed (e + 1) (drop (e + 1) t.text.now))) ≡ close (scan_of t)
+cursor_closes t e is l =
+    let over = rw is at t.over in
     let bytes : drop e t.text.now ≡ line_feed ∷ drop (e + 1) t.text.now =
     drop_more t.text.now e 0 l ∙ ap (λ (b : ℕ). b ∷ drop (e + 1) t.text.now) (over refl l) in
     sym (ap close (cursor_at t (LineEnd e) is)
@@ -239,11 +243,11 @@ cursor_closes t h e is l =
     ∙ rw (← add-one t.line, ← add-one e))
 
 -- and is refused where nothing is left, or a token is
-pub cursor_past : (t : Inside) (e : ℕ) → t.ahead ≡ LineEnd e → length t.text.now ≤ e → refused (broken (scan_of t)) ≡ close (scan_of t)
+pub cursor_past : (t : Tokens) (e : ℕ) → t.ahead ≡ LineEnd e → length t.text.now ≤ e → refused (broken (scan_of t)) ≡ close (scan_of t)
 cursor_past t e is l =
     let here = cursor_at t (LineEnd e) is ∙ ap (λ (bs : List ℕ). scan_at false t.line (cut line_feed e bs)) (drop_all e t.text.now l) in
     subst (λ (s : Scan). refused (broken s) ≡ close s) (sym here) (sym (close_past t.line e))
 
-pub cursor_due : (t : Inside) (at : ℕ) → t.ahead ≡ Token at → refused (broken (scan_of t)) ≡ close (scan_of t)
+pub cursor_due : (t : Tokens) (at : ℕ) → t.ahead ≡ Token at → refused (broken (scan_of t)) ≡ close (scan_of t)
 cursor_due t at is =
     subst (λ (s : Scan). refused (broken s) ≡ close s) (sym (cursor_at t (Token at) is)) (sym (close_due t.line at (drop at t.text.now)))

@@ -1,6 +1,6 @@
 -- The number that digits spell, as the loop over them finds it.
 use Rattle.std.proofs.Common.{◌≡◌, ℕ, ◌+◌, ◌-◌, ◌*◌, ◌<◌, ◌≤◌, Bool, true, false, cond, not, ◌&&◌, ◌||◌, eqb, leb, List, [], ◌∷◌, length, get_or, Some, None, Option, refl, arith}
-use Rattle.std.proofs.lemmas.Bool.{lt-leb, ne_eqb, or_left, or_right, not_from_false}
+use Rattle.std.proofs.lemmas.Bool.{lt-leb, le-leb, ne_eqb, or_left, or_right, not_from_false}
 use Rattle.text.specs.Readers.{is_digit, all_digits, value_from, value, natural, is_nil}
 
 -- what digits go on to spell, if they are digits and it is at most `most`
@@ -13,6 +13,12 @@ value_grows n (c ∷ cs) = omega (arith, value_grows (n * 10 + (c - 48)) cs)
 
 pub within_digit : (most n c : ℕ) (cs : List ℕ) → is_digit c ≡ true → within_from most n (c ∷ cs) ≡ within_from most (n * 10 + (c - 48)) cs
 within_digit most n c cs d = rw d
+
+pub within_other : (most n c : ℕ) (cs : List ℕ) → is_digit c ≡ false → within_from most n (c ∷ cs) ≡ None
+within_other most n c cs d = rw d
+
+pub within_none : (most n : ℕ) → n ≤ most → within_from most n [] ≡ Some n
+within_none most n h = rw (le-leb n most h)
 
 -- past `most` there is no way back
 pub within_past : (most n : ℕ) (cs : List ℕ) → most < n → within_from most n cs ≡ None

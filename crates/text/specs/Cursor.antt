@@ -1,6 +1,6 @@
 -- Where the code's cursor stands.
-use Rattle.std.specs.Prelude.{◌≡◌, ℕ, ◌+◌, ◌<◌, ◌≤◌, Bool, true, false, List, [], ◌∷◌, length, drop, slice_index}
-use Rattle.text.specs.declared.tokens.Tokens.TheInside.{Inside}
+use Rattle.std.specs.Prelude.{ℕ, Bool, true, false, List, [], ◌∷◌, drop}
+use Rattle.text.specs.declared.tokens.Tokens.{Tokens}
 use Rattle.text.specs.Ahead.{place_of, is_token}
 use Rattle.text.specs.Cut.{Piece, cut, line_feed}
 use Rattle.text.specs.Scan.{Scan, enter}
@@ -14,11 +14,5 @@ abbrev pub scan_at : Bool → ℕ → List Piece → Scan
 scan_at due n [] = record { number = n; tokens = []; end = 0; below = [] }
 scan_at due n (l ∷ ls) = left due (enter n l ls)
 
-abbrev pub scan_of : Inside → Scan
+abbrev pub scan_of : Tokens → Scan
 scan_of t = scan_at (is_token t.ahead) t.line (cut line_feed (place_of t.ahead) (drop (place_of t.ahead) t.text.now))
-
--- the cursor stands in the text, where a line ends if no token stands there
-pub record IsCursor (t : Inside) : Type 0 where
-  pub within : place_of t.ahead ≤ length t.text.now
-  pub counted : t.line ≤ place_of t.ahead + 1
-  pub over : is_token t.ahead ≡ false → place_of t.ahead < length t.text.now → slice_index t.text.now (place_of t.ahead) ≡ 10

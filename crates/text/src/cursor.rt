@@ -5,6 +5,7 @@ ghost use Rattle.model.specs.Refusals.{refused_at};
 ghost use Rattle.text.specs.Scan.{start, taken, one, close, position, over, broken};
 ghost use Rattle.text.specs.Readers.{natural, signed_word, optional, letter, the_letter, the_number, exactly};
 ghost use Rattle.text.specs.Shape.{bytes_of, is_shaped};
+ghost use Rattle.text.specs.Cursor.{scan_of};
 ghost use Rattle.text.specs.Cut.{separates};
 ghost use Rattle.text.specs.Meaning.{Next};
 
@@ -36,7 +37,7 @@ fn shape(word: &[u8]) -> Token<'_>
 impl<'a> Tokens<'a> {
     // A cursor at the start of the text's first line.
     pub fn new(text: &'a [u8]) -> Tokens<'a>
-        ensures { result ≡ start text.now }
+        ensures { scan_of result ≡ start text.now }
     {
         Tokens {
             text,
@@ -48,7 +49,7 @@ impl<'a> Tokens<'a> {
     // The line, and the place of its next token or, past the last one, of the line's end.
     #[tactic(auto, using(crate::proofs::Cuts::cursor_position))]
     pub fn position(&self) -> Position
-        ensures value { result ≡ position self.now }
+        ensures value { result ≡ position (scan_of self.now) }
         ensures counted { result.line ≤ result.place + 1 }
     {
         Position {
@@ -59,14 +60,14 @@ impl<'a> Tokens<'a> {
 
     // The refusal for a form that is broken here.
     pub fn broken(&self) -> Refusal
-        ensures { result ≡ broken self.now }
+        ensures { result ≡ broken (scan_of self.now) }
     {
         self.position().refused(Cause::Form)
     }
 
     // The line's next token, or a broken form where it has none.
     fn next(&mut self) -> Result<Placed<'a>, Refusal>
-        ensures { Next self.old result self.new }
+        ensures { Next (scan_of self.old) result (scan_of self.new) }
     {
         let Ahead::Token(from) = self.ahead else {
             return Err(self.broken());
@@ -109,7 +110,7 @@ fn require<T: PartialEq + Copy>(found: T, expected: T, refusal: Refusal) -> Resu
 impl Tokens<'_> {
     // The next token as a number from 0 to `most`.
     pub fn natural(&mut self, most: u32) -> Result<u32, Refusal>
-        ensures { taken result self.new ≡ one (natural most) self.old }
+        ensures { taken result (scan_of self.new) ≡ one (natural most) (scan_of self.old) }
     {
         let next = self.next()?;
         next.natural(most).ok_or(next.broken())
@@ -117,7 +118,7 @@ impl Tokens<'_> {
 
     // The next token as a signed word; only a number below 0 has a minus sign.
     pub fn signed(&mut self) -> Result<i32, Refusal>
-        ensures { taken result self.new ≡ one signed_word self.old }
+        ensures { taken result (scan_of self.new) ≡ one signed_word (scan_of self.old) }
     {
         let next = self.next()?;
         next.signed().ok_or(next.broken())
@@ -125,7 +126,7 @@ impl Tokens<'_> {
 
     // The next token as a number from 0 to `most`, or a lone minus sign, for none.
     pub fn optional(&mut self, most: u32) -> Result<Option<u32>, Refusal>
-        ensures { taken result self.new ≡ one (optional most) self.old }
+        ensures { taken result (scan_of self.new) ≡ one (optional most) (scan_of self.old) }
     {
         let next = self.next()?;
         next.optional(most).ok_or(next.broken())
@@ -133,7 +134,7 @@ impl Tokens<'_> {
 
     // The next token as a letter: one byte that is neither a digit nor a minus sign.
     pub fn letter(&mut self) -> Result<char, Refusal>
-        ensures { taken result self.new ≡ one letter self.old }
+        ensures { taken result (scan_of self.new) ≡ one letter (scan_of self.old) }
     {
         let next = self.next()?;
         next.letter().ok_or(next.broken())
@@ -141,7 +142,7 @@ impl Tokens<'_> {
 
     // The next token, which has to be that letter.
     pub fn only_letter(&mut self, expected: char) -> Result<(), Refusal>
-        ensures { taken result self.new ≡ one (the_letter expected) self.old }
+        ensures { taken result (scan_of self.new) ≡ one (the_letter expected) (scan_of self.old) }
     {
         let refusal = self.broken();
         require(self.letter()?, expected, refusal)
@@ -149,7 +150,7 @@ impl Tokens<'_> {
 
     // The next token, which has to be that number.
     pub fn only_number(&mut self, expected: u32) -> Result<(), Refusal>
-        ensures { taken result self.new ≡ one (the_number expected) self.old }
+        ensures { taken result (scan_of self.new) ≡ one (the_number expected) (scan_of self.old) }
     {
         let refusal = self.broken();
         require(self.natural(expected)?, expected, refusal)
@@ -157,7 +158,7 @@ impl Tokens<'_> {
 
     // The next token, which has to be that word.
     pub fn keyword(&mut self, expected: &[u8]) -> Result<(), Refusal>
-        ensures { taken result self.new ≡ one (exactly expected.now) self.old }
+        ensures { taken result (scan_of self.new) ≡ one (exactly expected.now) (scan_of self.old) }
     {
         let next = self.next()?;
         match next.token {
@@ -169,7 +170,7 @@ impl Tokens<'_> {
     // The end of the line: no token is left, and a line feed stands there.
     #[tactic(auto, using(crate::proofs::Cuts::cursor_closes, crate::proofs::Cuts::cursor_past, crate::proofs::Cuts::cursor_due))]
     pub fn end_line(&mut self) -> Result<(), Refusal>
-        ensures { taken result self.new ≡ close self.old }
+        ensures { taken result (scan_of self.new) ≡ close (scan_of self.old) }
     {
         match self.ahead {
             Ahead::LineEnd(end) if end < self.text.len() => {
@@ -184,7 +185,7 @@ impl Tokens<'_> {
     // At the start of a line: whether nothing is left of the text.
     #[tactic(auto, using(crate::proofs::Cuts::cursor_over))]
     pub fn is_over(&self) -> bool
-        ensures { result ≡ over self.now }
+        ensures { result ≡ over (scan_of self.now) }
     {
         match self.ahead {
             Ahead::Token(at) => at >= self.text.len(),

@@ -1,9 +1,8 @@
-ghost use Rattle.std.specs.Prelude.{◌≡◌, IsTrue};
-ghost use Rattle.text.specs.Ahead.{place_of};
+ghost use Rattle.std.specs.Prelude.{◌≡◌, ◌+◌, ◌<◌, ◌≤◌, IsTrue, false, length, slice_index};
+ghost use Rattle.text.specs.Ahead.{place_of, is_token};
 ghost use Rattle.text.specs.Shape.{is_shaped};
 
 use model::Position;
-use std::marker::Model;
 
 // A token of a line, by its shape, as the part of the text that it borrows.
 #[derive(Clone, Copy)]
@@ -42,7 +41,8 @@ impl Ahead {
     }
 }
 
-// A cursor over the tokens of a text, line by line. After a refusal nothing is said of where it stands.
+// A cursor over the tokens of a text, line by line. After a refusal nothing is said of where it stands. It has no Model: clauses
+// would see its scan alone, and nothing of that it is the scan of a text, cut at spaces and line feeds.
 #[derive(Drop)]
 pub struct Tokens<'a> {
     // the whole text, since places count from its start
@@ -50,16 +50,7 @@ pub struct Tokens<'a> {
     // the line's number, from 1
     pub(crate) line: usize,
     pub(crate) ahead: Ahead,
-}
-
-impl<'a> Model for Tokens<'a> {
-    ghost use Rattle.text.specs.Scan.{Scan};
-
-    ghost Value = { Scan };
-
-    ghost use Rattle.text.specs.Cursor.{scan_of, IsCursor};
-
-    ghost view = { scan_of };
-
-    ghost invariant = { IsCursor };
+    ghost within: { place_of ahead ≤ length text.now },
+    ghost counted: { line ≤ place_of ahead + 1 },
+    ghost over: { is_token ahead ≡ false → place_of ahead < length text.now → slice_index text.now (place_of ahead) ≡ 10 },
 }

@@ -10,19 +10,19 @@ use Rattle.std.specs.Int.{w32}
 use Rattle.words.specs.Sets.{Set, bits, word, every, insert, union, difference, union_of, difference_of, is_empty, is_subset, is_disjoint, size}
 use Rattle.words.proofs.Members.{every_each, each_every, count_ones, mask_below, bits_word}
 
-bits_and : (a b n : ℕ) → bits (bit_and a b) n ≡ (bits a n && bits b n)
+pub bits_and : (a b n : ℕ) → bits (bit_and a b) n ≡ (bits a n && bits b n)
 unfolding bits
 bits_and a b n = grind (arith, nat_tests, bit_at_and a b n)
 
-bits_or : (a b n : ℕ) → bits (bit_or a b) n ≡ (bits a n || bits b n)
+pub bits_or : (a b n : ℕ) → bits (bit_or a b) n ≡ (bits a n || bits b n)
 unfolding bits
 bits_or a b n = grind (arith, nat_tests, bit_at_or a b n)
 
-bits_not : (w n : ℕ) → w < 2 ^ 32 → n < 32 → bits (2 ^ 32 - 1 - w) n ≡ not (bits w n)
+pub bits_not : (w n : ℕ) → w < 2 ^ 32 → n < 32 → bits (2 ^ 32 - 1 - w) n ≡ not (bits w n)
 unfolding bits
 bits_not w n h l = grind (arith, nat_tests, bit_at_not w32 w n h l)
 
-bits_one : (m n : ℕ) → bits (2 ^ m) n ≡ eqb n m
+pub bits_one : (m n : ℕ) → bits (2 ^ m) n ≡ eqb n m
 unfolding bits
 bits_one m n = grind (arith, nat_tests, bit_at-pow_same, bit_at-pow_other)
 
@@ -39,7 +39,12 @@ same_word v w lv lw same = same_from_bits_below 32 v w lv lw (λ n l. grind (ari
 pub word_is : (w : ℕ) (p : Set) → w < 2 ^ 32 → ((n : ℕ) → n < 32 → bits w n ≡ p n) → w ≡ word p
 word_is w p h same = same_word w (word p) h (mask_below p 32) (λ n l. same n l ∙ sym (bits_word p n l))
 
-same_test : (a b : Bool) → (T a → T b) → (T b → T a) → a ≡ b
+-- a word is the word of its own set
+pub word_bits : (w : ℕ) → w < 2 ^ 32 → word (bits w) ≡ w
+word_bits w h = sym (word_is w (bits w) h (λ n l. refl))
+
+-- tests that imply each other are equal
+pub same_test : (a b : Bool) → (T a → T b) → (T b → T a) → a ≡ b
 same_test a b f g = grind arith
 
 -- the test of two words for equality, member by member

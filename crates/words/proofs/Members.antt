@@ -1,10 +1,11 @@
 -- What tests, counts and masks of a set tell of its members, and back.
-use Rattle.std.proofs.Common.{◌≡◌, ℕ, zero, suc, ◌+◌, ◌^◌, ◌<◌, ◌≤◌, Bool, true, false, cond, not, ◌&&◌, ◌||◌, T, eqb, sym, refl, ap, ◌∙◌, subst, ap₂, inl, inr, pow-suc, arith, T_not}
+use Rattle.std.proofs.Common.{◌≡◌, ℕ, zero, suc, ◌+◌, ◌*◌, ◌/◌, ◌%◌, ◌^◌, ◌<◌, ◌≤◌, Bool, true, false, cond, not, ◌&&◌, ◌||◌, T, eqb, sym, refl, ap, ◌∙◌, subst, ap₂, inl, inr, pow-suc, arith, T_not}
 use lib.Dec.{not_T}
 use lib.Count.{ones, ones_cat}
 use lib.Ieee.Fits.{and_i, and_l, and_r}
 use Rattle.std.proofs.lemmas.Bool.{cases_eq}
 use Rattle.std.proofs.lemmas.Bool.Decides.{nat_tests}
+use Rattle.std.proofs.lemmas.Nat.{mod-pow-add}
 use Rattle.std.proofs.lemmas.Nat.Bits.{bit_at_cat_low, bit_at_cat_high}
 use Rattle.words.specs.Sets.{Set, bits, every, count, mask, is_empty, is_subset, is_disjoint, size, word}
 
@@ -44,6 +45,11 @@ module _ (p : Set) where
   count_not zero = refl
   count_not (suc k) = grind (arith, count_not k)
 
+  pub mask_not : (k : ℕ) → mask k (λ n. not (p n)) + mask k p + 1 ≡ 2 ^ k
+  unfolding mask
+  mask_not zero = refl
+  mask_not (suc k) = grind (arith, pow-suc 2 k, mask_not k)
+
   bits_mask : (k n : ℕ) → n < k → bits (mask k p) n ≡ p n
   unfolding mask bits
   bits_mask zero n l = absurd (omega arith)
@@ -54,7 +60,17 @@ module _ (p : Set) where
       ]
 
 module _ (p q : Set) where
-  count_same : (k : ℕ) → ((n : ℕ) → n < k → p n ≡ q n) → count k p ≡ count k q
+  pub every_same : (k : ℕ) → ((n : ℕ) → n < k → p n ≡ q n) → every k p ≡ every k q
+  unfolding every
+  every_same zero h = refl
+  every_same (suc k) h = ap₂ (λ a b. a && b) (h k (omega arith)) (every_same k (λ n l. h n (omega arith)))
+
+  pub mask_same : (k : ℕ) → ((n : ℕ) → n < k → p n ≡ q n) → mask k p ≡ mask k q
+  unfolding mask
+  mask_same zero h = refl
+  mask_same (suc k) h = ap₂ (λ b m. cond b 1 0 * 2 ^ k + m) (h k (omega arith)) (mask_same k (λ n l. h n (omega arith)))
+
+  pub count_same : (k : ℕ) → ((n : ℕ) → n < k → p n ≡ q n) → count k p ≡ count k q
   unfolding count
   count_same zero h = refl
   count_same (suc k) h = ap₂ (λ b m. cond b 1 0 + m) (h k (omega arith)) (count_same k (λ n l. h n (omega arith)))
@@ -64,6 +80,18 @@ module _ (p q : Set) where
   unfolding count
   count_disjoint zero h = omega arith
   count_disjoint (suc k) h = grind (arith, h k (omega arith), count_disjoint k (λ n l. h n (omega arith)))
+
+digit_is : (x : ℕ) → x < 2 → cond (eqb x 1) 1 0 ≡ x
+digit_is zero h = refl
+digit_is (suc zero) h = refl
+digit_is (suc (suc x)) h = absurd (omega arith)
+
+-- the mask of a word's own set is the word, cut off
+pub mask_bits : (k w : ℕ) → mask k (bits w) ≡ w % 2 ^ k
+unfolding mask bits
+mask_bits zero w = omega arith
+mask_bits (suc k) w =
+    ap₂ (λ b m. b * 2 ^ k + m) (digit_is (w / 2 ^ k % 2) (omega arith)) (mask_bits k w) ∙ sym (mod-pow-add w 1 k) ∙ ap (λ e. w % 2 ^ e) (omega arith)
 
 -- the tests of words, member by member
 module _ (p q : Set) where

@@ -1,13 +1,13 @@
 // Sets of the numbers 0 to 31, each in a word: n is a member where bit n is set.
 #![tactic(auto)]
 
-ghost use Rattle.std.specs.Prelude.{◌≡◌, ◌≤◌};
+ghost use Rattle.std.specs.Prelude.{◌≡◌, ◌^◌, ◌<◌, ◌≤◌};
 ghost use Rattle.words.specs.Sets.{bits, word, insert, union_of, difference_of, is_empty, is_subset, is_disjoint, size};
 
 use std::marker::Model;
 
 // A set of the numbers 0 to 31; contracts see it as the number of its word.
-#[derive(Clone, Copy)]
+#[derive(Clone, Copy, PartialEq, Eq)]
 pub struct WordSet {
     word: u32,
 }
@@ -47,7 +47,8 @@ impl WordSet {
     // Whether the number is a member.
     #[tactic(auto, using(crate::proofs::Bits::contains_word, crate::proofs::Bits::contains_past))]
     pub fn contains(self, n: u32) -> bool
-        ensures { result ≡ bits self n }
+        ensures value { result ≡ bits self n }
+        ensures range { self < 2 ^ 32 }
     {
         n < 32 && self.word >> n & 1 == 1
     }
@@ -55,7 +56,8 @@ impl WordSet {
     // Makes the number a member; a number past 31 changes nothing.
     #[tactic(auto, using(crate::proofs::Bits::insert_word, crate::proofs::Bits::insert_past))]
     pub fn insert(&mut self, n: u32)
-        ensures { self.new ≡ word (insert (bits self.old) n) }
+        ensures value { self.new ≡ word (insert (bits self.old) n) }
+        ensures range { self.old < 2 ^ 32 }
     {
         if n < 32 {
             self.word |= 1 << n;
@@ -65,7 +67,8 @@ impl WordSet {
     // The members of either set.
     #[tactic(auto, using(crate::proofs::Bits::union_word))]
     pub fn union(self, other: WordSet) -> WordSet
-        ensures { result ≡ union_of self other }
+        ensures value { result ≡ union_of self other }
+        ensures range { (self < 2 ^ 32) × (other < 2 ^ 32) }
     {
         WordSet {
             word: self.word | other.word,
@@ -75,7 +78,8 @@ impl WordSet {
     // The members of this set that the other has not.
     #[tactic(auto, using(crate::proofs::Bits::difference_word))]
     pub fn difference(self, other: WordSet) -> WordSet
-        ensures { result ≡ difference_of self other }
+        ensures value { result ≡ difference_of self other }
+        ensures range { (self < 2 ^ 32) × (other < 2 ^ 32) }
     {
         WordSet {
             word: self.word & !other.word,
@@ -85,7 +89,8 @@ impl WordSet {
     // Whether the set has no member.
     #[tactic(auto, using(crate::proofs::Bits::empty_word))]
     pub fn is_empty(self) -> bool
-        ensures { result ≡ is_empty (bits self) }
+        ensures value { result ≡ is_empty (bits self) }
+        ensures range { self < 2 ^ 32 }
     {
         self.word == 0
     }
@@ -93,7 +98,8 @@ impl WordSet {
     // Whether the other set has all members of this one.
     #[tactic(auto, using(crate::proofs::Bits::subset_word))]
     pub fn is_subset(self, other: WordSet) -> bool
-        ensures { result ≡ is_subset (bits self) (bits other) }
+        ensures value { result ≡ is_subset (bits self) (bits other) }
+        ensures range { (self < 2 ^ 32) × (other < 2 ^ 32) }
     {
         self.word & other.word == self.word
     }
@@ -101,7 +107,8 @@ impl WordSet {
     // Whether the sets share no member.
     #[tactic(auto, using(crate::proofs::Bits::disjoint_word))]
     pub fn is_disjoint(self, other: WordSet) -> bool
-        ensures { result ≡ is_disjoint (bits self) (bits other) }
+        ensures value { result ≡ is_disjoint (bits self) (bits other) }
+        ensures range { (self < 2 ^ 32) × (other < 2 ^ 32) }
     {
         self.word & other.word == 0
     }
@@ -111,6 +118,7 @@ impl WordSet {
     pub fn count(self) -> u32
         ensures value { result ≡ size (bits self) }
         ensures most { result ≤ 32 }
+        ensures range { self < 2 ^ 32 }
     {
         self.word.count_ones()
     }

@@ -1,4 +1,5 @@
 use Rattle.std.proofs.Common.{◌≡◌, length}
+use Rattle.text.specs.Cursor.{scan_of}
 use Rattle.syntax.specs.Reading.{reading, outcome, ComesTo}
 use Rattle.syntax.proofs.Whole.{rest}
 use Rattle.plans.specs.Meaning.{plan_of}
@@ -8,8 +9,8 @@ use Rattle.plans.proofs.plan.Plan.read_whole.Given as goal
 abbrev pub invariant-loop-tokens : goal.invariant-loop-tokens
 invariant-loop-tokens g l =
     (reading g.K.Kind.answers g.K.Spelling.formats l.text
-    ≡ outcome (rest g.K.Kind.answers g.K.Spelling.formats (plan_of l.plan) l.tokens))
-    × ComesTo g.K.Kind.answers g.K.Spelling.formats l.text (plan_of l.plan) l.tokens
+    ≡ outcome (rest g.K.Kind.answers g.K.Spelling.formats (plan_of l.plan) (scan_of l.tokens)))
+    × ComesTo g.K.Kind.answers g.K.Spelling.formats l.text (plan_of l.plan) (scan_of l.tokens)
 
 abbrev pub decreases-loop-tokens : goal.decreases-loop-tokens
-decreases-loop-tokens g l = length l.tokens.below
+decreases-loop-tokens g l = length (scan_of l.tokens).below

@@ -1,11 +1,11 @@
 -- With the lemmas that only this function needs: the check does not find how a word that is cut off goes on.
-use Rattle.std.proofs.Common.{◌≡◌, ℕ, ◌+◌, ◌-◌, ◌<◌, true, false, List, length, get_or, take, drop, sym, refl, ap, ◌∙◌, arith}
+use Rattle.std.proofs.Common.{◌≡◌, ℕ, ◌+◌, ◌-◌, ◌<◌, true, List, length, get_or, take, drop, sym, ap, ◌∙◌, arith}
 use Rattle.std.specs.List.{position_or_len}
 use Rattle.std.proofs.lemmas.List.{length-drop, drop-drop, take_all}
 use Rattle.model.specs.declared.Position.{Position}
+use Rattle.text.specs.declared.tokens.Ahead.{Ahead}
 use Rattle.text.specs.declared.tokens.Ahead.TheVariants.{Token, LineEnd}
-use Rattle.text.specs.declared.tokens.Tokens.TheInside.{Inside}
-use Rattle.text.specs.Ahead.{place_of}
+use Rattle.text.specs.Ahead.{place_of, is_token}
 use Rattle.text.specs.Cut.{cut, space, line_feed, separates}
 use Rattle.text.specs.Scan.{Scan, position}
 use Rattle.text.specs.Cursor.{scan_of, scan_at}
@@ -13,6 +13,10 @@ use Rattle.text.specs.Meaning.{before}
 use Rattle.text.proofs.Cuts.{cursor_at, piece, count, found, word_length, after_length, next_space, next_end, feed_after, place_here}
 use Rattle.text.proofs.tokens.Tokens.next.Goals as goal
 use Rattle.text.proofs.tokens.Tokens.next.Goals.{in-32, in_default-after, in_default-after-2}
+
+-- where a cursor stands with what comes next there
+abbrev standing : ℕ → List ℕ → Ahead → Scan
+standing n text a = scan_at (is_token a) n (cut line_feed (place_of a) (drop (place_of a) text))
 
 -- the rest of the text, the word that is cut off there, and the bytes after it
 module _ (at k : ℕ) (text w after : List ℕ) (value : k ≡ position_or_len separates (take (length text - at) (drop at text)))
@@ -30,30 +34,25 @@ module _ (at k : ℕ) (text w after : List ℕ) (value : k ≡ position_or_len s
   rest = back ∙ (λ i. drop (counted i) (whole i)) ∙ drop-drop (count at text) at text
 
   -- the cursor past that word
-  module _ (t z : Inside) (same : z.text.now ≡ text) (line : z.line ≡ t.line) where
-    due_next : z.ahead ≡ Token (at + length w + 1) → 0 < length after → get_or after 0 0 ≡ space
-        → scan_at true t.line (cut line_feed at (drop at text)) ≡ before (scan_of z) (piece at w)
-    due_next e l h =
-        next_space at text w after word rest t.line l h
-        ∙ (λ i. before (scan_at true (sym line i) (cut line_feed (at + length w + 1) (drop (at + length w + 1) (sym same i)))) (piece at w))
-        ∙ ap (λ (y : Scan). before y (piece at w)) (sym (cursor_at z (Token (at + length w + 1)) e))
+  module _ (n : ℕ) (a : Ahead) where
+    due_next : a ≡ Token (at + length w + 1) → 0 < length after → get_or after 0 0 ≡ space
+        → scan_at true n (cut line_feed at (drop at text)) ≡ before (standing n text a) (piece at w)
+    due_next e l h = next_space at text w after word rest n l h ∙ ap (λ (b : Ahead). before (standing n text b) (piece at w)) (sym e)
 
-    end_next : z.ahead ≡ LineEnd (at + length w) → (0 < length after → get_or after 0 0 ≡ space → ⊥)
-        → scan_at true t.line (cut line_feed at (drop at text)) ≡ before (scan_of z) (piece at w)
-    end_next e other =
-        next_end at text w after word rest t.line other
-        ∙ (λ i. before (scan_at false (sym line i) (cut line_feed (at + length w) (drop (at + length w) (sym same i)))) (piece at w))
-        ∙ ap (λ (y : Scan). before y (piece at w)) (sym (cursor_at z (LineEnd (at + length w)) e))
+    end_next : a ≡ LineEnd (at + length w) → (0 < length after → get_or after 0 0 ≡ space → ⊥)
+        → scan_at true n (cut line_feed at (drop at text)) ≡ before (standing n text a) (piece at w)
+    end_next e other = next_end at text w after word rest n other ∙ ap (λ (b : Ahead). before (standing n text b) (piece at w)) (sym e)
 
 pub invariant_of-self : goal.invariant_of-self
 invariant_of-self c =
-    let text = c.self.inside.text.now in
+    let t = c.args.self.now in
+    let text = t.text.now in
     let at = c.in-Token.from in
     let v = c.token_length.ensures.value in
     let s = c.split_at.ensures in
     let is = word at _ text _ _ v s.front s.back in
     let after = rest at _ text _ _ v s.front s.back in
-    let here : place_of c.self.inside.ahead ≡ at = ap place_of c.in-Token.is in
+    let here : place_of t.ahead ≡ at = ap place_of c.in-Token.is in
     let long = word_length at text _ _ is after in
     let left = after_length at text _ _ is after in
     let fits = ap length is in
@@ -70,21 +69,22 @@ invariant_of-self c =
 
 pub returns : goal.returns
 returns c =
-    let t = c.self.inside in
+    let t = c.args.self.now in
     let text = t.text.now in
     let at = c.in-Token.from in
     let v = c.token_length.ensures.value in
     let s = c.split_at.ensures in
-    let z : Inside = record { text = t.text; line = t.line; ahead = c.if-after-lt1.self } in
-    let here : c.args.self.now ≡ scan_at true t.line (cut line_feed at (drop at text)) = sym c.self.view_is ∙ cursor_at t (Token at) c.in-Token.is in
+    let a = c.if-after-lt1.self in
+    let here : scan_of t ≡ scan_at true t.line (cut line_feed at (drop at text)) = cursor_at t (Token at) c.in-Token.is in
     let stands : c.position-position.result ≡ position (scan_at true t.line (cut line_feed at (drop at text))) = c.position-position.ensures.value ∙ ap position here in
     let placed : c.position-position.result.place ≡ at = ap (λ (p : Position). p.place) stands ∙ place_here true t.line at text (λ e. cc) in
-    let shown : before (scan_of z) (piece at c.split_at.result.0.now) ≡ before (scan_of z) (record { place = c.position-position.result.place; bytes = _ }) =
-    λ i. before (scan_of z) (record { place = sym placed i; bytes = sym c.shape-token.ensures.bytes i }) in (
+    let shown : before (standing t.line text a) (piece at c.split_at.result.0.now)
+    ≡ before (standing t.line text a) (record { place = c.position-position.result.place; bytes = _ }) =
+    λ i. before (standing t.line text a) (record { place = sym placed i; bytes = sym c.shape-token.ensures.bytes i }) in (
       elim c.if-after-lt1.branch [
-        | in-32 w ↦ here ∙ due_next at _ text _ _ v s.front s.back t z refl refl w.self-is (omega arith) (omega arith) ∙ shown
-        | in_default-after w ↦ here ∙ end_next at _ text _ _ v s.front s.back t z refl refl w.self-is (λ m h. omega arith) ∙ shown
-        | in_default-after-2 w ↦ here ∙ end_next at _ text _ _ v s.front s.back t z refl refl w.self-is (λ m h. omega arith) ∙ shown
+        | in-32 w ↦ here ∙ due_next at _ text _ _ v s.front s.back t.line a w.self-is (omega arith) (omega arith) ∙ shown
+        | in_default-after w ↦ here ∙ end_next at _ text _ _ v s.front s.back t.line a w.self-is (λ m h. omega arith) ∙ shown
+        | in_default-after-2 w ↦ here ∙ end_next at _ text _ _ v s.front s.back t.line a w.self-is (λ m h. omega arith) ∙ shown
       ],
       ap (λ (p : Position). p.line) c.position-position.ensures.value,
     )
