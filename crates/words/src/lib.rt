@@ -57,7 +57,7 @@ impl WordSet {
     #[tactic(auto, using(crate::proofs::Bits::insert_word, crate::proofs::Bits::insert_past))]
     pub fn insert(&mut self, n: u32)
         ensures value { self.new ≡ word (insert (bits self.old) n) }
-        ensures range { self.old < 2 ^ 32 }
+        ensures range { (self.old < 2 ^ 32) × (self.new < 2 ^ 32) }
     {
         if n < 32 {
             self.word |= 1 << n;
