@@ -91,33 +91,46 @@ fn split_repeat(notation: &[u8]) -> Option<Repeat<'_>>
     Some(Repeat { times, piece, rest })
 }
 
-// Adds the bytes of a repeat, and gives what is left of its piece, as `add_bytes` does: the piece is read once, and what it wrote
-// is copied. A piece of nothing is not gone over, however often it is to be written.
-fn add_repeat<'a>(out: &mut Vec<u8>, repeat: &Repeat<'a>) -> Result<&'a [u8], AllocError> {
+// Adds the bytes of a repeat; false where its piece has what writes no byte. The piece is read once, and what it wrote is copied.
+// A piece of nothing is not gone over, however often it is to be written.
+fn add_repeat(out: &mut Vec<u8>, repeat: &Repeat<'_>) -> Result<bool, AllocError> {
+    if repeat.piece.is_empty() {
+        return Ok(true);
+    }
     let from = out.len();
     let rest = add_bytes(out, repeat.piece)?;
     let to = out.len();
-    if rest.is_empty() && from < to {
+    if !rest.is_empty() {
+        return Ok(false);
+    }
+    if from < to {
         for _ in 1..repeat.times {
             out.extend_from_within(from..to)?;
         }
     }
-    Ok(rest)
+    Ok(true)
 }
 
 // The bytes that a notation writes. (An error of `context(..)?` would be laid out anew for each repeat, whether it comes or not.)
 pub(crate) fn expand(heap: Global, notation: &[u8]) -> anyhow::Result<Vec<u8>> {
     let mut out = Vec::new(heap);
-    let mut rest = add_bytes(&mut out, notation)?;
-    while let [b'\\', b'{', after @ ..] = rest {
-        let Some(repeat) = split_repeat(after) else {
-            return Err(anyhow!("the table has a repeat without its number or its end"));
-        };
-        rest = add_repeat(&mut out, &repeat)?;
-        if !rest.is_empty() {
-            break;
+    let mut rest = notation;
+    while !rest.is_empty() {
+        if let [b'\\', b'{', after @ ..] = rest {
+            let Some(repeat) = split_repeat(after) else {
+                return Err(anyhow!("the table has a repeat without its number or its end"));
+            };
+            if !add_repeat(&mut out, &repeat)? {
+                break;
+            }
+            rest = repeat.rest;
+        } else {
+            let left = add_bytes(&mut out, rest)?;
+            if left.len() == rest.len() {
+                break;
+            }
+            rest = left;
         }
-        rest = add_bytes(&mut out, repeat.rest)?;
     }
     if !rest.is_empty() {
         return Err(anyhow!("the table has a byte that is not in its notation"));

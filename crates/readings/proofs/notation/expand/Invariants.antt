@@ -1,5 +1,5 @@
 use Rattle.std.proofs.Common.{length}
 use Rattle.readings.proofs.notation.expand.Given as goal
 
-abbrev pub decreases-loop-rest : goal.decreases-loop-rest
-decreases-loop-rest l = length l.rest
+abbrev pub decreases-loop-after : goal.decreases-loop-after
+decreases-loop-after l = length l.rest
